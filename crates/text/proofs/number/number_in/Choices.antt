@@ -1,0 +1,10 @@
+use mathlib.Core.Path.{_≡_}
+use Prim.Native.Nat.{_<_, _^_}
+use lib.ListN.{drop}
+use Rattle.std.specs.shelf.Text.{allDigits}
+use Rattle.text.specs.Numbers.{valueOn}
+use Rattle.text.proofs.number.number_in.Given as given
+
+abbrev pub Inv-loop-b : given.InvT-loop-b
+Inv-loop-b l =
+    (valueOn (l .n) (drop (l .b-index) (l .field)) ≡ valueOn 0 (l .field)) × (allDigits (drop (l .b-index) (l .field)) ≡ allDigits (l .field)) × (l .n < 10 ^ l .b-index)

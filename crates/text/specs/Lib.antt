@@ -1,0 +1,6 @@
+pub mod Cuts
+pub mod Numbers
+pub mod Refusals
+pub mod Letters
+pub mod Reading
+pub mod Written

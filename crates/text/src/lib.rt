@@ -1,0 +1,10 @@
+mod compose;
+mod cut;
+mod field;
+mod letter;
+mod line;
+mod number;
+pub mod read;
+pub mod record;
+pub mod refusal;
+pub mod write;
