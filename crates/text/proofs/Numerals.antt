@@ -85,3 +85,18 @@ writes-back bs n e =
     ap decimal (sym same) ∙ decimal-value own bs digits some first (omega (arith, value-short own bs 7 digits short)))
     (λ (f : isNumeral bs ≡ false). let no′ : None ≡ Some n = subst (λ b. cond b (Some (valueOn 0 bs)) None ≡ Some n) f e in absurd (let z : _≡_ {A = ℕ} 0 1 = cc in omega arith))
     (cases-bool (isNumeral bs))
+
+pub decimal-digits : (n : ℕ) → n < 2 ^ 64 → allDigits (decimal n) ≡ true
+decimal-digits n h = digits-decimal own n h
+
+pub number-fits : (bs : List ℕ) (n : ℕ) → numberIn bs ≡ Some n → n ≤ 9999999
+number-fits bs n e =
+    ⊎-elim
+    (λ (t : isNumeral bs ≡ true).
+    let is : Some (valueOn 0 bs) ≡ Some n = subst (λ b. cond b (Some (valueOn 0 bs)) None ≡ Some n) t e in
+    let same : valueOn 0 bs ≡ n = cc in
+    let digits : allDigits bs ≡ true = grind (arith, tells) in
+    let short : length bs ≤ 7 = grind (arith, tells) in
+    omega (arith, value-short own bs 7 digits short))
+    (λ (f : isNumeral bs ≡ false). let no′ : None ≡ Some n = subst (λ b. cond b (Some (valueOn 0 bs)) None ≡ Some n) f e in absurd (let z : _≡_ {A = ℕ} 0 1 = cc in omega arith))
+    (cases-bool (isNumeral bs))

@@ -4,3 +4,4 @@ pub mod Refusals
 pub mod Letters
 pub mod Reading
 pub mod Written
+pub mod RoundTrips

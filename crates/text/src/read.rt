@@ -4,6 +4,7 @@ ghost use Rattle.text.specs.Cuts.{marks, upTo, past};
 ghost use Rattle.text.specs.Reading.{setIn, pricedIn, marketIn, pairIn, fieldsAs, recordIn, readOf, seen, faultAt};
 ghost use Rattle.std.specs.Results.{Cases as ByOk};
 ghost use Rattle.std.specs.declared.result.Result.the-variants.{Ok, Err};
+ghost use Rattle.text.specs.RoundTrips.{WritesBack};
 use crate::cut::count_marks;
 use crate::cut::split_at_mark;
 use crate::field::ColumnField;
@@ -145,6 +146,7 @@ pub(crate) fn read_record(line: &[u8]) -> Result<Record, LineFault>
 // The record of the first line and the unread rest of the text, or what is wrong with that line.
 pub fn read_line(text: &[u8]) -> Result<Read<'_>, Fault>
     ensures answer { λ r. ⌜ seen r ≡ readOf (now (text .entry)) ⌝ }
+    ensures again { λ r. ⌜ WritesBack r (now (text .entry)) ⌝ }
 {
     if text.is_empty() {
         return Err(Fault {

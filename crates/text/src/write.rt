@@ -5,6 +5,7 @@ ghost use lib.Dec.{leb};
 ghost use Rattle.std.specs.Written.{decimal};
 ghost use Rattle.text.specs.Letters.{sideLetter, columnLetter};
 ghost use Rattle.text.specs.Written.{textOf, tabbed, pricedFields, bytesFor, allFit, pricedNumbers, numbersOf, lineFor, putLength, putBuffer};
+ghost use Rattle.text.specs.RoundTrips.{ReadsBack};
 use crate::letter::column_letter;
 use crate::letter::side_letter;
 use crate::line::Line;
@@ -118,6 +119,7 @@ pub(crate) fn line_of(record: Record) -> Line
 pub fn write_line(record: Record, buffer: &mut [u8]) -> Result<usize, Refusal>
     ensures answer { λ r. ⌜ r ≡ putLength (lineFor «record») (now (buffer .entry)) ⌝ }
     ensures buffer { λ _. ⌜ now (buffer .exit) ≡ putBuffer (lineFor «record») (now (buffer .entry)) ⌝ }
+    ensures back { λ r. ⌜ ReadsBack «record» r (now (buffer .entry)) (now (buffer .exit)) ⌝ }
 {
     if !numbers_fit(record) {
         return Err(Refusal::NumberTooLarge);
