@@ -5,3 +5,4 @@ pub mod Appends
 pub mod Fields
 pub mod ReadsBack
 pub mod WritesBack
+pub mod Inspecting

@@ -5,3 +5,4 @@ pub mod Letters
 pub mod Reading
 pub mod Written
 pub mod RoundTrips
+pub mod Inspection

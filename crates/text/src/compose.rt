@@ -87,4 +87,10 @@ impl Line {
         buffer[0..n].copy_from_slice(&self.bytes[0..n]);
         Ok(n)
     }
+
+    pub(crate) fn as_slice(&self) -> &[u8]
+        ensures { λ r. ⌜ now r ≡ textOf (now (self .entry)) ⌝ }
+    {
+        &self.bytes[0..self.len]
+    }
 }

@@ -1,6 +1,7 @@
 mod compose;
 mod cut;
 mod field;
+pub mod inspection;
 mod letter;
 mod line;
 mod number;

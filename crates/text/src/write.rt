@@ -83,7 +83,7 @@ fn market_line(side: Side, member: u32, shares: u32) -> Line
         .end()
 }
 
-fn pair_line(letter: u8, first: u32, second: u32) -> Line
+pub(crate) fn pair_line(letter: u8, first: u32, second: u32) -> Line
     ensures { λ r. ⌜ textOf r ≡ (letter ∷ tabbed (decimal first ∷ decimal second ∷ [])) ++ 10 ∷ [] ⌝ }
 {
     Line::new(letter).number(first).number(second).end()
