@@ -15,7 +15,7 @@ use Rattle.std.proofs.shelf.Elements.{all-weaker, all-append, all-take, all-dro
 use Rattle.std.proofs.shelf.Sorted.{shuffled-refl, shuffled-cons, shuffled-trans, shuffled-swap}
 use Rattle.std.proofs.shelf.Sums.{leading-drop-yes, leading-drop-no, leading-drop-all, leading-le-length}
 use Rattle.std.proofs.shelf.Tests.{cases-bool, cases-lt, both-ways}
-use Rattle.market.specs.Files.{filed, ahead, InOrder, Filing, Removal}
+use Rattle.market.specs.Files.{Strict, filed, ahead, InOrder, Filing, Removal}
 
 module _ {X : Type 0} (before : X → X → Bool) where
   -- a loop's step: x precedes the record at i, or does not
@@ -61,16 +61,16 @@ module _ {X : Type 0} (before : X → X → Bool) where
   pub front-filed : (x : X) (items after : List X) (len : ℕ) → len < length items → after ≡ filed before x (take len items) ++ drop (len + 1) items → take (len + 1) after ≡ filed before x (take len items)
   front-filed x items after len h e = ap (take (len + 1)) e ∙ take-at (filed before x (take len items)) (drop (len + 1) items) (len + 1) (length-filed x (take len items) ∙ ap (λ n. n + 1) (length-take-le len items (omega arith)))
 
-  module _ (asym : (x y : X) → before x y ≡ true → before y x ≡ false) (trans : (x y z : X) → before x y ≡ true → before y z ≡ true → before x z ≡ true) where
+  module _ (strict : Strict before) where
     -- what does not precede y does not precede x, which precedes y
     behind : (x y z : X) → before x y ≡ true → before z y ≡ false → before z x ≡ false
-    behind x y z e no′ = ⊎-elim (λ t. absurd (both-ways _ no′ (trans z x y t e))) (λ f. f) (cases-bool (before z x))
+    behind x y z e no′ = ⊎-elim (λ t. absurd (both-ways _ no′ (strict .transitive z x y t e))) (λ f. f) (cases-bool (before z x))
 
     pub filed-sorted : (x : X) (xs : List X) → InOrder before xs → InOrder before (filed before x xs)
     filed-sorted x [] h = (tt, tt)
     filed-sorted x (y ∷ ys) h =
         ⊎-elim
-        (λ (e : before x y ≡ true). subst (λ b. InOrder before (cond b (x ∷ y ∷ ys) (y ∷ filed before x ys))) (sym e) ((asym x y e, all-weaker (λ z. before z y ≡ false) (λ z. before z x ≡ false) (λ z. behind x y z e) ys (h .0)), h))
+        (λ (e : before x y ≡ true). subst (λ b. InOrder before (cond b (x ∷ y ∷ ys) (y ∷ filed before x ys))) (sym e) ((strict .asymmetric x y e, all-weaker (λ z. before z y ≡ false) (λ z. before z x ≡ false) (λ z. behind x y z e) ys (h .0)), h))
         (λ (e : before x y ≡ false). subst (λ b. InOrder before (cond b (x ∷ y ∷ ys) (y ∷ filed before x ys))) (sym e) (all-filed (λ z. before z y ≡ false) x ys e (h .0), filed-sorted x ys (h .1)))
         (cases-bool (before x y))
 

@@ -7,6 +7,11 @@ use lib.Dec.{ltb, eqb}
 use Rattle.std.specs.shelf.Lists.{All, leading}
 use Rattle.std.specs.Slices.{Shuffled}
 
+-- one record at most precedes the other, and what precedes a record precedes those behind it
+pub record Strict {X : Type 0} (before : X → X → Bool) : Type 0 where
+  pub asymmetric : (x y : X) → before x y ≡ true → before y x ≡ false
+  pub transitive : (x y z : X) → before x y ≡ true → before y z ≡ true → before x z ≡ true
+
 -- x stands before the first record that it precedes, or last
 abbrev pub filed : {X : Type 0} → (X → X → Bool) → X → List X → List X
 filed before x [] = x ∷ []

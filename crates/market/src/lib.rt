@@ -1,2 +1,4 @@
 pub mod file;
+pub mod prices;
+pub mod side;
 pub mod words;

@@ -7,11 +7,10 @@ use borrow.Author.Needs.{needs}
 use borrow.Rule.Slice.PartMut.{putMid}
 use Rattle.std.specs.shelf.Lists.{inserted}
 use Rattle.std.proofs.shelf.Lists.{length-take-le}
-use Rattle.std.proofs.shelf.Tests.{lt-ltb}
 use Rattle.market.specs.Files.{ahead, filed}
 use Rattle.market.proofs.Filing.{filed-is, filing}
 use Rattle.market.proofs.Moves.{turned-in}
-use Rattle.market.proofs.file.insert.Needs as need
+use Rattle.market.proofs.file.put_in.Needs as need
 
 pub returns : need.returns
 returns g c =
@@ -28,4 +27,4 @@ returns g c =
     turned-in items held at x _ within lt (c .rotate-right .ensures .after)
     ∙ ap (λ n. inserted (take held items) n x ++ drop (held + 1) items) place
     ∙ ap (λ l. l ++ drop (held + 1) items) (sym (filed-is before x (take held items))) in
-    record { room = sym (lt-ltb held (length items) lt); slots = (place, file); lawful = filing before (g .T·Ranked·met .asymmetric) (g .T·Ranked·met .transitive) x items after held lt file }
+    record { place = place; slots = file; lawful = filing before (g .T·Ranked .strict) x items after held lt file }

@@ -6,7 +6,7 @@ use Prim.Native.Nat.{ℕ, _<_, _≤_}
 use native.Mathlib.Omega.{arith}
 use lib.Dec.{ltb, eqb}
 use Rattle.std.proofs.shelf.Tests.{cases-bool, both-ways, or-cases, or-from, or-left, or-right, and-parts, and-from, and-left, and-right, ltb-true, lt-ltb, le-ltb, eqb-true, eq-eqb, ne-eqb}
-use Rattle.market.specs.Files.{byTurns}
+use Rattle.market.specs.Files.{Strict, byTurns}
 
 pub lower-asymmetric : (p q : ℕ) → ltb p q ≡ true → ltb q p ≡ false
 lower-asymmetric p q e = le-ltb q p (omega (arith, ltb-true p q e))
@@ -23,7 +23,7 @@ module _ (first : ℕ → ℕ → Bool) (asym : (p q : ℕ) → first p q ≡ tr
       (λ (f : first p q ≡ false). f)
       (cases-bool (first p q))
 
-  pub by-turns-asymmetric : (p n q m : ℕ) → byTurns first p n q m ≡ true → byTurns first q m p n ≡ false
+  by-turns-asymmetric : (p n q m : ℕ) → byTurns first p n q m ≡ true → byTurns first q m p n ≡ false
   by-turns-asymmetric p n q m e =
       ⊎-elim
       (λ (t : first p q ≡ true). or-from (first q p) (eqb q p && ltb m n) (asym p q t) (and-left (eqb q p) (ltb m n) (ne-eqb q p (λ s. both-ways (first p q) (level p q (sym s)) t))))
@@ -33,7 +33,7 @@ module _ (first : ℕ → ℕ → Bool) (asym : (p q : ℕ) → first p q ≡ tr
       (or-cases (first p q) (eqb p q && ltb n m) e)
 
   module _ (trans : (p q r : ℕ) → first p q ≡ true → first q r ≡ true → first p r ≡ true) where
-    pub by-turns-transitive : (p n q m r l : ℕ) → byTurns first p n q m ≡ true → byTurns first q m r l ≡ true → byTurns first p n r l ≡ true
+    by-turns-transitive : (p n q m r l : ℕ) → byTurns first p n q m ≡ true → byTurns first q m r l ≡ true → byTurns first p n r l ≡ true
     by-turns-transitive p n q m r l e f =
         ⊎-elim
         (λ (t : first p q ≡ true).
@@ -51,3 +51,11 @@ module _ (first : ℕ → ℕ → Bool) (asym : (p q : ℕ) → first p q ≡ tr
         or-right (first p r) (eqb p r && ltb n l) (and-from (eqb p r) (ltb n l) (eq-eqb p r (same ∙ eqb-true q r (b .0))) (lower-transitive n m l (a .1) (b .1))))
         (or-cases (first q r) (eqb q r && ltb m l) f))
         (or-cases (first p q) (eqb p q && ltb n m) e)
+
+    -- records of which each has two such numbers
+    pub by-turns-strict : {X : Type 0} (one two : X → ℕ) → Strict (λ x y. byTurns first (one x) (two x) (one y) (two y))
+    by-turns-strict one two =
+        record {
+          asymmetric = λ x y. by-turns-asymmetric (one x) (two x) (one y) (two y);
+          transitive = λ x y z. by-turns-transitive (one x) (two x) (one y) (two y) (one z) (two z);
+        }
