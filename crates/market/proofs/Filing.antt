@@ -3,18 +3,18 @@ use mathlib.Core.Path.{_≡_, refl, sym, ap, subst, _∙_}
 use mathlib.Core.Bool.{Bool, true, false, not, cond}
 use mathlib.Core.Logic.{⊎-elim}
 use mathlib.Core.List.{List, [], _∷_, _++_}
-use Prim.Native.Nat.{ℕ, zero, suc, _+_, _-_, _<_, _≤_, min}
+use Prim.Native.Nat.{ℕ, zero, suc, _+_, _-_, _<_, _≤_}
 use native.Mathlib.Omega.{arith}
 use native.Mathlib.Numerals.{one-add}
 use lib.ListN.{length, getD, take, drop}
 use Rattle.std.specs.Slices.{Shuffled}
 use Rattle.std.specs.shelf.Lists.{All, inserted, removed}
 use Rattle.std.proofs.shelf.Edits.{length-inserted, length-removed}
-use Rattle.std.proofs.shelf.Lists.{take-at, take-all, drop-all, getD-take, length-take, length-take-le}
+use Rattle.std.proofs.shelf.Lists.{take-at, getD-take, length-take-le}
 use Rattle.std.proofs.shelf.Elements.{all-weaker, all-append, all-take, all-drop}
 use Rattle.std.proofs.shelf.Sorted.{shuffled-refl, shuffled-cons, shuffled-trans, shuffled-swap}
 use Rattle.std.proofs.shelf.Sums.{leading-drop-yes, leading-drop-no, leading-drop-all, leading-le-length}
-use Rattle.std.proofs.shelf.Tests.{cases-bool, cases-lt, both-ways}
+use Rattle.std.proofs.shelf.Tests.{cases-bool, both-ways}
 use Rattle.market.specs.Files.{Strict, filed, ahead, InOrder, Filing, Removal}
 
 module _ {X : Type 0} (before : X → X → Bool) where
@@ -94,24 +94,16 @@ module _ {X : Type 0} where
   removed-whole (y ∷ ys) (suc i) x h e =
       shuffled-trans _ _ _ (shuffled-cons y _ _ (removed-whole ys i x (omega arith) e)) (shuffled-swap (y ∷ x ∷ removed ys i) (x ∷ y ∷ removed ys i) 0 1 (omega arith) (omega arith) refl)
 
-  -- a count beyond the slots counts as all of them
-  pub take-held : (n : ℕ) (xs : List X) → take (min n (length xs)) xs ≡ take n xs
-  take-held n xs = ⊎-elim
-      (λ (h : n < length xs). let e : min n (length xs) ≡ n = omega arith in ap (λ m. take m xs) e)
-      (λ (h : length xs ≤ n). take-all (min n (length xs)) xs (omega arith) ∙ sym (take-all n xs h))
-      (cases-lt n (length xs))
+  module _ (x : X) (items after : List X) (held at : ℕ) (there : at < held) (within : held ≤ length items) (e : after ≡ removed (take held items) at ++ (x ∷ drop held items)) where
+    pub front-removed : take (held - 1) after ≡ removed (take held items) at
+    front-removed =
+        let n = length-take-le held items within in
+        let long = length-removed (take held items) at (omega arith) in
+        ap (take (held - 1)) e ∙ take-at (removed (take held items) at) (x ∷ drop held items) (held - 1) (omega arith)
 
-  pub drop-held : (n : ℕ) (xs : List X) → drop (min n (length xs)) xs ≡ drop n xs
-  drop-held n xs = ⊎-elim
-      (λ (h : n < length xs). let e : min n (length xs) ≡ n = omega arith in ap (λ m. drop m xs) e)
-      (λ (h : length xs ≤ n). drop-all (min n (length xs)) xs (omega arith) ∙ sym (drop-all n xs h))
-      (cases-lt n (length xs))
-
-  -- what `remove_at` owes of the file that it leaves
-  pub removal : (x : X) (items after : List X) (held at : ℕ) → at < min held (length items) → x ≡ getD items at x → after ≡ removed (take held items) at ++ (x ∷ drop held items) → Removal x (take held items) (take (min held (length items) - 1) after)
-  removal x items after held at h is e =
-      let n = length-take held items in
-      let long = length-removed (take held items) at (omega arith) in
-      let front : take (min held (length items) - 1) after ≡ removed (take held items) at = ap (take (min held (length items) - 1)) e ∙ take-at (removed (take held items) at) (x ∷ drop held items) (min held (length items) - 1) (omega arith) in
-      let first : x ≡ getD (take held items) at x = is ∙ sym (getD-take held items at x (omega arith)) in
-      subst (Removal x (take held items)) (sym front) (record { ordered = λ before. removed-ordered before (take held items) at; whole = removed-whole (take held items) at x (omega arith) first })
+    -- what `remove_at` owes of the file that it leaves
+    pub removal : x ≡ getD items at x → Removal x (take held items) (take (held - 1) after)
+    removal is =
+        let n = length-take-le held items within in
+        let first : x ≡ getD (take held items) at x = is ∙ sym (getD-take held items at x there) in
+        subst (Removal x (take held items)) (sym front-removed) (record { ordered = λ before. removed-ordered before (take held items) at; whole = removed-whole (take held items) at x (omega arith) first })

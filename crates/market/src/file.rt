@@ -1,10 +1,10 @@
 // Files of records kept in order of precedence, written once for every kind of record.
 // A file is the first `held` slots of a slice; what lies behind them is free.
 ghost use mathlib.Core.Path.{_≡_};
-ghost use mathlib.Core.Bool.{Bool};
+ghost use mathlib.Core.Bool.{Bool, _&&_};
 ghost use mathlib.Core.List.{[], _∷_, _++_};
-ghost use Prim.Native.Nat.{_+_, _-_, _<_, _≤_, min};
-ghost use lib.Dec.{ltb};
+ghost use Prim.Native.Nat.{_+_, _-_, _<_, _≤_};
+ghost use lib.Dec.{ltb, leb};
 ghost use lib.ListN.{length, take, drop};
 ghost use Rattle.std.specs.Options.{Cases as BySome, isSome};
 ghost use Rattle.std.specs.Results.{Cases, isOk};
@@ -32,6 +32,7 @@ pub trait Ranked: Copy {
 pub fn insert<T: Ranked>(file: &mut [T], held: usize, newcomer: T) -> Result<usize, Full>
     ensures room { λ r. ⌜ isOk r ≡ ltb held (length (now (file .entry))) ⌝ }
     ensures slots { λ r. ⌜ Cases r (λ at. (at ≡ ahead before newcomer (take held (now (file .entry)))) × (now (file .exit) ≡ filed before newcomer (take held (now (file .entry))) ++ drop (held + 1) (now (file .entry)))) (λ _. now (file .exit) ≡ now (file .entry)) ⌝ }
+    ensures front { λ r. ⌜ Cases r (λ _. take (held + 1) (now (file .exit)) ≡ filed before newcomer (take held (now (file .entry)))) (λ _. Unit {0}) ⌝ }
     ensures lawful { λ r. ⌜ Cases r (λ _. Filing before newcomer (take held (now (file .entry))) (take (held + 1) (now (file .exit)))) (λ _. Unit {0}) ⌝ }
 {
     if held >= file.len() {
@@ -41,14 +42,14 @@ pub fn insert<T: Ranked>(file: &mut [T], held: usize, newcomer: T) -> Result<usi
 }
 
 // Takes the record at a place out of the file and closes the gap; the freed slot keeps the record taken.
-// Where the file ends before that place there is nothing to take, and the file stays as it is.
-// A count beyond the slots counts as all of them.
+// Where the file has no such place, or would be longer than the slots, nothing is taken and it stays as it is.
 pub fn remove_at<T: Copy>(file: &mut [T], held: usize, at: usize) -> Option<T>
-    ensures there { λ r. ⌜ isSome r ≡ ltb at (min held (length (now (file .entry)))) ⌝ }
+    ensures there { λ r. ⌜ isSome r ≡ (ltb at held && leb held (length (now (file .entry)))) ⌝ }
     ensures slots { λ r. ⌜ BySome r (now (file .exit) ≡ now (file .entry)) (λ x. (nth (take held (now (file .entry))) at ≡ Some x) × (now (file .exit) ≡ removed (take held (now (file .entry))) at ++ (x ∷ drop held (now (file .entry))))) ⌝ }
-    ensures lawful { λ r. ⌜ BySome r (Unit {0}) (λ x. Removal x (take held (now (file .entry))) (take (min held (length (now (file .entry))) - 1) (now (file .exit)))) ⌝ }
+    ensures front { λ r. ⌜ BySome r (Unit {0}) (λ _. take (held - 1) (now (file .exit)) ≡ removed (take held (now (file .entry))) at) ⌝ }
+    ensures lawful { λ r. ⌜ BySome r (Unit {0}) (λ x. Removal x (take held (now (file .entry))) (take (held - 1) (now (file .exit)))) ⌝ }
 {
-    if at >= held.min(file.len()) {
+    if at >= held || held > file.len() {
         return None;
     }
     Some(take_out(file, held, at))
@@ -71,6 +72,7 @@ fn put_in<T: Ranked>(file: &mut [T], held: usize, newcomer: T) -> usize
     requires { ⌜ held < length (now file) ⌝ }
     ensures place { λ r. ⌜ r ≡ ahead before newcomer (take held (now (file .entry))) ⌝ }
     ensures slots { λ _. ⌜ now (file .exit) ≡ filed before newcomer (take held (now (file .entry))) ++ drop (held + 1) (now (file .entry)) ⌝ }
+    ensures front { λ _. ⌜ take (held + 1) (now (file .exit)) ≡ filed before newcomer (take held (now (file .entry))) ⌝ }
     ensures lawful { λ _. ⌜ Filing before newcomer (take held (now (file .entry))) (take (held + 1) (now (file .exit))) ⌝ }
 {
     let at = place_of(&file[0..held], &newcomer);
@@ -80,13 +82,14 @@ fn put_in<T: Ranked>(file: &mut [T], held: usize, newcomer: T) -> usize
 }
 
 fn take_out<T: Copy>(file: &mut [T], held: usize, at: usize) -> T
-    requires { ⌜ at < min held (length (now file)) ⌝ }
+    requires there { ⌜ at < held ⌝ }
+    requires within { ⌜ held ≤ length (now file) ⌝ }
     ensures taken { λ r. ⌜ nth (take held (now (file .entry))) at ≡ Some r ⌝ }
     ensures slots { λ r. ⌜ now (file .exit) ≡ removed (take held (now (file .entry))) at ++ (r ∷ drop held (now (file .entry))) ⌝ }
-    ensures lawful { λ r. ⌜ Removal r (take held (now (file .entry))) (take (min held (length (now (file .entry))) - 1) (now (file .exit))) ⌝ }
+    ensures front { λ _. ⌜ take (held - 1) (now (file .exit)) ≡ removed (take held (now (file .entry))) at ⌝ }
+    ensures lawful { λ r. ⌜ Removal r (take held (now (file .entry))) (take (held - 1) (now (file .exit))) ⌝ }
 {
-    let end = held.min(file.len());
     let taken = file[at];
-    file[at..end].rotate_left(1);
+    file[at..held].rotate_left(1);
     taken
 }

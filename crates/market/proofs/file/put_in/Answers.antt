@@ -8,7 +8,7 @@ use borrow.Rule.Slice.PartMut.{putMid}
 use Rattle.std.specs.shelf.Lists.{inserted}
 use Rattle.std.proofs.shelf.Lists.{length-take-le}
 use Rattle.market.specs.Files.{ahead, filed}
-use Rattle.market.proofs.Filing.{filed-is, filing}
+use Rattle.market.proofs.Filing.{filed-is, front-filed, filing}
 use Rattle.market.proofs.Moves.{turned-in}
 use Rattle.market.proofs.file.put_in.Needs as need
 
@@ -27,4 +27,4 @@ returns g c =
     turned-in items held at x _ within lt (c .rotate-right .ensures .after)
     ∙ ap (λ n. inserted (take held items) n x ++ drop (held + 1) items) place
     ∙ ap (λ l. l ++ drop (held + 1) items) (sym (filed-is before x (take held items))) in
-    record { place = place; slots = file; lawful = filing before (g .T·Ranked .strict) x items after held lt file }
+    record { place = place; slots = file; front = front-filed before x items after held lt file; lawful = filing before (g .T·Ranked .strict) x items after held lt file }
