@@ -61,6 +61,13 @@ cancel o =
       place = Nowhere;
     }
 
+-- the same where it may be done, and else the order as it was
+abbrev pub tryFill : ℕ → Order → Order
+tryFill q o = cond (canFill q o) (fill q o) o
+
+abbrev pub tryCancel : Order → Order
+tryCancel o = cond (addsUp o) (cancel o) o
+
 -- the open shares are put elsewhere
 abbrev pub put : Place → Order → Order
 put w o =

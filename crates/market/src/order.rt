@@ -1,7 +1,6 @@
 // An order of the roll, changed only through its own methods.
 ghost use mathlib.Core.Path.{_≡_};
-ghost use mathlib.Core.Bool.{cond};
-ghost use Rattle.market.specs.Orders.{enter, addsUp, canFill, fill, cancel, put, restsOn, inLimit, reaches};
+ghost use Rattle.market.specs.Orders.{enter, addsUp, canFill, tryFill, tryCancel, put, restsOn, inLimit, reaches};
 ghost use Rattle.market.specs.declared.words.Place.the-variants.{Book, Line, StopFile};
 use crate::range::within;
 use crate::words::Kind;
@@ -41,7 +40,7 @@ impl Order {
     // More than are open, or an order that does not add up, is refused and nothing changes.
     pub fn fill(&mut self, shares: u32) -> bool
         ensures answer { λ r. ⌜ r ≡ canFill shares (now (self .entry)) ⌝ }
-        ensures order { λ _. ⌜ now (self .exit) ≡ cond (canFill shares (now (self .entry))) (fill shares (now (self .entry))) (now (self .entry)) ⌝ }
+        ensures order { λ _. ⌜ now (self .exit) ≡ tryFill shares (now (self .entry)) ⌝ }
         ensures lawful { λ _. ⌜ addsUp (now (self .exit)) ≡ addsUp (now (self .entry)) ⌝ }
     {
         if shares > self.open || !self.adds_up() {
@@ -58,7 +57,7 @@ impl Order {
     // Cancels all open shares. An order that does not add up is refused and nothing changes.
     pub fn cancel(&mut self) -> bool
         ensures answer { λ r. ⌜ r ≡ addsUp (now (self .entry)) ⌝ }
-        ensures order { λ _. ⌜ now (self .exit) ≡ cond (addsUp (now (self .entry))) (cancel (now (self .entry))) (now (self .entry)) ⌝ }
+        ensures order { λ _. ⌜ now (self .exit) ≡ tryCancel (now (self .entry)) ⌝ }
         ensures lawful { λ _. ⌜ addsUp (now (self .exit)) ≡ addsUp (now (self .entry)) ⌝ }
     {
         if !self.adds_up() {
