@@ -2,12 +2,13 @@
 ghost use mathlib.Core.Path.{_≡_};
 ghost use Prim.Native.Nat.{_≤_};
 ghost use lib.ListN.{length, take};
+use crate::bounds::ROLL;
 use crate::words::Order;
 
 mod upkeep;
 
 pub struct Roll {
-    orders: [Order; 512],
+    orders: [Order; ROLL],
     count: usize,
     ghost within: { (count ≤ 512) × (length orders ≡ 512) },
 }

@@ -21,7 +21,7 @@ impl Roll {
         ensures { λ r. ⌜ listed r ≡ [] ⌝ }
     {
         Roll {
-            orders: [Order::new(0, 0, Side::Buy, Kind::Limit, 0, 0); 512],
+            orders: [Order::new(0, 0, Side::Buy, Kind::Limit, 0, 0); ROLL],
             count: 0,
         }
     }
