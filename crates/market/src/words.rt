@@ -68,11 +68,25 @@ pub struct Range {
 #[derive(Clone, Copy, PartialEq, Eq, Debug)]
 pub enum TapeLine {
     // an execution of the order run, with the range in force, 0 and 0 without one
-    Print { order: u32, price: u32, shares: u32, low: u32, high: u32 },
+    Print {
+        order: u32,
+        price: u32,
+        shares: u32,
+        low: u32,
+        high: u32,
+    },
     // all open shares of an order cancelled
-    Cancel { order: u32, shares: u32 },
+    Cancel {
+        order: u32,
+        shares: u32,
+    },
     // a stop elected
-    Elect { order: u32 },
+    Elect {
+        order: u32,
+    },
     // a trade on the floor
-    Floor { price: u32, shares: u32 },
+    Floor {
+        price: u32,
+        shares: u32,
+    },
 }

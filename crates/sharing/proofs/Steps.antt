@@ -1,0 +1,46 @@
+-- The steps of the loops. Assumes nothing.
+use mathlib.Core.Path.{_≡_, refl, sym, ap, _∙_}
+use mathlib.Core.Bool.{Bool, true, false, cond, _&&_}
+use mathlib.Core.List.{List, [], _∷_, _++_, append-assoc, append-nil}
+use Prim.Native.Nat.{ℕ, suc, zero, min, _+_, _-_, _*_, _%_, _<_, _≤_}
+use native.Mathlib.Omega.{arith}
+use lib.Dec.{leb, ltb, eqb}
+use lib.ListN.{length, getD, take, drop, set}
+use Rattle.std.proofs.shelf.Lists.{take-more-set, drop-set-lt, at-drop-more, take-all, drop-all}
+use Rattle.std.proofs.shelf.Tests.{lt-ltb, le-ltb}
+use Rattle.std.proofs.shelf.Ways.{tells}
+use Rattle.sharing.specs.Shares.{lot, mostShares, mostEntries, total, zeros, lawfulShares, allLawful, shareable}
+use Rattle.sharing.specs.Turns.{inTurn}
+
+-- a loop that writes over each element: G says what becomes of the rest, and H of the rest behind it
+module _ {X : Type 0} (xs : List X) (i : ℕ) (ys : List X) where
+  pub over-more : (v : X) (G H : List X → List X) → i < length xs → G (drop i xs) ≡ v ∷ H (drop (i + 1) xs) → take i xs ++ G (drop i xs) ≡ ys → take (i + 1) (set xs i v) ++ H (drop (i + 1) (set xs i v)) ≡ ys
+  over-more v G H h step inv =
+      ap (λ l. l ++ H (drop (i + 1) (set xs i v))) (take-more-set xs i v h) ∙ ap (λ l. (take i xs ++ v ∷ []) ++ H l) (drop-set-lt (i + 1) xs i v (omega arith)) ∙ append-assoc (take i xs) (v ∷ []) (H (drop (i + 1) xs)) ∙ ap (λ l. take i xs ++ l) (sym step) ∙ inv
+
+  pub over-all : (G : List X → List X) → G [] ≡ [] → length xs ≤ i → take i xs ++ G (drop i xs) ≡ ys → xs ≡ ys
+  over-all G none h inv = sym (append-nil xs) ∙ sym (ap (λ l. l ++ []) (take-all i xs h)) ∙ sym (ap (λ l. take i xs ++ l) (ap G (drop-all i xs h) ∙ none)) ∙ inv
+
+module _ (xs : List ℕ) (i : ℕ) (h : i < length xs) where
+  pub zeros-more : zeros (drop i xs) ≡ 0 ∷ zeros (drop (i + 1) xs)
+  zeros-more = at-drop-more zeros xs i 0 h
+
+  pub turn-more : (q v : ℕ) → v ≡ min (getD xs i 0) q → inTurn (drop i xs) q ≡ v ∷ inTurn (drop (i + 1) xs) (q - v)
+  turn-more q v e =
+      let step : inTurn (drop i xs) q ≡ min (getD xs i 0) q ∷ inTurn (drop (i + 1) xs) (q - min (getD xs i 0) q) = at-drop-more (λ l. inTurn l q) xs i 0 h in
+      step ∙ ap (λ k. k ∷ inTurn (drop (i + 1) xs) (q - k)) (sym e)
+
+  pub total-more : total (drop i xs) ≡ getD xs i 0 + total (drop (i + 1) xs)
+  total-more = at-drop-more total xs i 0 h
+
+  pub lawful-more : (b : Bool) → b ≡ lawfulShares (getD xs i 0) → allLawful (drop i xs) ≡ (b && allLawful (drop (i + 1) xs))
+  lawful-more b e =
+      let step : allLawful (drop i xs) ≡ (lawfulShares (getD xs i 0) && allLawful (drop (i + 1) xs)) = at-drop-more allLawful xs i 0 h in
+      step ∙ ap (λ t. t && allLawful (drop (i + 1) xs)) (sym e)
+
+-- the check of a row and a quantity
+pub not-shareable : (row : List ℕ) (q : ℕ) → allLawful row ≡ false → false ≡ shareable row q
+not-shareable row q e = grind (arith, tells)
+
+pub shares-told : (row : List ℕ) (q sum : ℕ) → 0 < length row → length row ≤ mostEntries → allLawful row ≡ true → q % lot ≡ 0 → lot ≤ q → sum ≡ total row → leb q sum ≡ shareable row q
+shares-told row q sum some few all lots least is = grind (arith, tells)

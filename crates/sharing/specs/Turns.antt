@@ -1,0 +1,68 @@
+-- Time priority and rotation. Assumes nothing.
+use mathlib.Core.Path.{_≡_}
+use mathlib.Core.Bool.{Bool, true, false, cond}
+use mathlib.Core.List.{List, [], _∷_}
+use Prim.Native.Nat.{ℕ, zero, suc, min, _+_, _-_, _/_, _≤_, _<_}
+use lib.Dec.{ltb}
+use lib.ListN.{length, getD}
+use Rattle.sharing.specs.Shares.{lot, mostShares, total, zeros, guarded, LawfulRule}
+
+-- each entry in row order gets as much as is left
+abbrev pub inTurn : List ℕ → ℕ → List ℕ
+inTurn [] q = []
+inTurn (a ∷ rest) q = min a q ∷ inTurn rest (q - min a q)
+
+-- time priority
+unfoldable pub byTime : List ℕ → ℕ → List ℕ
+byTime = guarded inTurn
+
+abbrev pub pointwise : (ℕ → ℕ → ℕ) → List ℕ → List ℕ → List ℕ
+pointwise f [] ys = []
+pointwise f (x ∷ xs) [] = x ∷ xs
+pointwise f (x ∷ xs) (y ∷ ys) = f x y ∷ pointwise f xs ys
+
+-- a round: 100 to each unfilled entry in row order, while some of the quantity is left
+abbrev pub round : List ℕ → ℕ → List ℕ
+round [] q = []
+round (a ∷ rest) q = min lot (min a q) ∷ round rest (q - min lot (min a q))
+
+-- round after round: what a round gives is no longer open in the next, nor left to give
+abbrev pub rounds : ℕ → List ℕ → ℕ → List ℕ
+rounds zero row q = zeros row
+rounds (suc k) row q =
+    let given : List ℕ = round row q in pointwise _+_ given (rounds k (pointwise _-_ row given) (q - total given))
+
+-- until the quantity is spent: a round gives at least 100, so q / 100 rounds are enough
+abbrev pub inRounds : List ℕ → ℕ → List ℕ
+inRounds row q = rounds (q / lot) row q
+
+-- rotation
+unfoldable pub byRotation : List ℕ → ℕ → List ℕ
+byRotation = guarded inRounds
+
+-- Where the entry at i is not filled, no entry has more than 100 above what it has, and none behind it has more.
+abbrev pub TakesTurns : List ℕ → List ℕ → Type 0
+TakesTurns row given =
+    (i j : ℕ) → getD given i 0 < getD row i 0 → (getD given j 0 ≤ getD given i 0 + lot) × (i < j → getD given j 0 ≤ getD given i 0)
+
+abbrev pub Rotates : (List ℕ → ℕ → List ℕ) → Type 0
+Rotates gifts = (row : List ℕ) (q : ℕ) → TakesTurns row (gifts row q)
+
+-- rotation is the one rule that takes turns
+abbrev pub OnlyRotation : Type 0
+OnlyRotation = (gifts : List ℕ → ℕ → List ℕ) → LawfulRule gifts → Rotates gifts → (row : List ℕ) (q : ℕ) → gifts row q ≡ byRotation row q
+
+-- how many entries are above a level
+abbrev pub above : ℕ → List ℕ → ℕ
+above l [] = 0
+above l (a ∷ rest) = cond (ltb l a) (1 + above l rest) (above l rest)
+
+-- the least entry above a level, and the most shares of an entry where there is none
+abbrev pub leastAbove : ℕ → List ℕ → ℕ
+leastAbove l [] = mostShares
+leastAbove l (a ∷ rest) = cond (ltb l a) (min a (leastAbove l rest)) (leastAbove l rest)
+
+-- one more round, after each entry has been given shares up to the level l
+abbrev pub lastRound : ℕ → List ℕ → ℕ → List ℕ
+lastRound l [] q = []
+lastRound l (a ∷ rest) q = (min a l + min lot (min (a - l) q)) ∷ lastRound l rest (q - min lot (min (a - l) q))

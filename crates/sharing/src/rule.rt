@@ -1,0 +1,58 @@
+ghost use mathlib.Core.Path.{_≡_};
+ghost use mathlib.Core.List.{List};
+ghost use Prim.Native.Nat.{ℕ};
+ghost use Rattle.sharing.specs.Shares.{lawfulShares, shareable, zeros, LawfulRule};
+
+// Shares are traded in lots.
+pub const LOT: u32 = 100;
+
+// The most shares of an entry.
+pub const MOST_SHARES: u32 = 1_000_000;
+
+// The most entries of a row.
+pub const MOST_ENTRIES: usize = 512;
+
+// A rule that says who gets how many shares of a quantity. The row has the open shares at one price, lowest order number first.
+pub trait ShareOut {
+    // How many shares each entry of the row is given: by the rule, the row and the quantity alone.
+    ghost gifts: { Self → List ℕ → ℕ → List ℕ };
+
+    // What every rule owes, and generic code may use.
+    ghost lawful: { (r : Self) → LawfulRule (gifts r) };
+
+    // Replaces each entry by its gift. A row or a quantity that cannot be shared out has gifts of 0.
+    fn share_out(&self, row: &mut [u32], quantity: u32)
+        ensures { λ _. ⌜ now (row .exit) ≡ gifts (now (self .entry)) (now (row .entry)) quantity ⌝ };
+}
+
+fn is_lawful(shares: u32) -> bool
+    ensures { λ r. ⌜ r ≡ lawfulShares shares ⌝ }
+{
+    shares >= LOT && shares <= MOST_SHARES && shares % LOT == 0
+}
+
+// Whether the quantity can be shared out over the row: else every rule gives nothing.
+pub fn can_share(row: &[u32], quantity: u32) -> bool
+    ensures { λ r. ⌜ r ≡ shareable (now (row .entry)) quantity ⌝ }
+{
+    if row.is_empty() || row.len() > MOST_ENTRIES {
+        return false;
+    }
+    let mut sum: u32 = 0;
+    for entry in row {
+        if !is_lawful(*entry) {
+            return false;
+        }
+        sum += *entry;
+    }
+    quantity % LOT == 0 && quantity >= LOT && quantity <= sum
+}
+
+// Every gift 0.
+pub(crate) fn give_nothing(row: &mut [u32])
+    ensures { λ _. ⌜ now (row .exit) ≡ zeros (now (row .entry)) ⌝ }
+{
+    for entry in row.iter_mut() {
+        *entry = 0;
+    }
+}
