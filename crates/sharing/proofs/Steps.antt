@@ -10,7 +10,7 @@ use Rattle.std.proofs.shelf.Lists.{take-more-set, drop-set-lt, at-drop-more, ta
 use Rattle.std.proofs.shelf.Tests.{lt-ltb, le-ltb}
 use Rattle.std.proofs.shelf.Ways.{tells}
 use Rattle.sharing.specs.Shares.{lot, mostShares, mostEntries, total, zeros, lawfulShares, allLawful, shareable}
-use Rattle.sharing.specs.Turns.{inTurn}
+use Rattle.sharing.specs.Turns.{inTurn, above, leastAbove, lastRound}
 
 -- a loop that writes over each element: G says what becomes of the rest, and H of the rest behind it
 module _ {X : Type 0} (xs : List X) (i : ℕ) (ys : List X) where
@@ -37,6 +37,30 @@ module _ (xs : List ℕ) (i : ℕ) (h : i < length xs) where
   lawful-more b e =
       let step : allLawful (drop i xs) ≡ (lawfulShares (getD xs i 0) && allLawful (drop (i + 1) xs)) = at-drop-more allLawful xs i 0 h in
       step ∙ ap (λ t. t && allLawful (drop (i + 1) xs)) (sym e)
+
+  module _ (l : ℕ) where
+    count-step : above l (drop i xs) ≡ cond (ltb l (getD xs i 0)) (1 + above l (drop (i + 1) xs)) (above l (drop (i + 1) xs))
+    count-step = at-drop-more (above l) xs i 0 h
+
+    pub count-yes : l < getD xs i 0 → above l (drop i xs) ≡ 1 + above l (drop (i + 1) xs)
+    count-yes t = count-step ∙ ap (λ b. cond b (1 + above l (drop (i + 1) xs)) (above l (drop (i + 1) xs))) (lt-ltb l _ t)
+
+    pub count-no : getD xs i 0 ≤ l → above l (drop i xs) ≡ above l (drop (i + 1) xs)
+    count-no t = count-step ∙ ap (λ b. cond b (1 + above l (drop (i + 1) xs)) (above l (drop (i + 1) xs))) (le-ltb l _ t)
+
+    least-step : leastAbove l (drop i xs) ≡ cond (ltb l (getD xs i 0)) (min (getD xs i 0) (leastAbove l (drop (i + 1) xs))) (leastAbove l (drop (i + 1) xs))
+    least-step = at-drop-more (leastAbove l) xs i 0 h
+
+    pub least-yes : l < getD xs i 0 → leastAbove l (drop i xs) ≡ min (getD xs i 0) (leastAbove l (drop (i + 1) xs))
+    least-yes t = least-step ∙ ap (λ b. cond b (min (getD xs i 0) (leastAbove l (drop (i + 1) xs))) (leastAbove l (drop (i + 1) xs))) (lt-ltb l _ t)
+
+    pub least-no : getD xs i 0 ≤ l → leastAbove l (drop i xs) ≡ leastAbove l (drop (i + 1) xs)
+    least-no t = least-step ∙ ap (λ b. cond b (min (getD xs i 0) (leastAbove l (drop (i + 1) xs))) (leastAbove l (drop (i + 1) xs))) (le-ltb l _ t)
+
+    pub last-more : (q v g : ℕ) → g ≡ min lot (min (getD xs i 0 - l) q) → v ≡ min (getD xs i 0) l + g → lastRound l (drop i xs) q ≡ v ∷ lastRound l (drop (i + 1) xs) (q - g)
+    last-more q v g e f =
+        let step : lastRound l (drop i xs) q ≡ (min (getD xs i 0) l + min lot (min (getD xs i 0 - l) q)) ∷ lastRound l (drop (i + 1) xs) (q - min lot (min (getD xs i 0 - l) q)) = at-drop-more (λ r. lastRound l r q) xs i 0 h in
+        step ∙ ap (λ k. (min (getD xs i 0) l + k) ∷ lastRound l (drop (i + 1) xs) (q - k)) (sym e) ∙ ap (λ k. k ∷ lastRound l (drop (i + 1) xs) (q - g)) (sym f)
 
 -- the check of a row and a quantity
 pub not-shareable : (row : List ℕ) (q : ℕ) → allLawful row ≡ false → false ≡ shareable row q

@@ -137,7 +137,7 @@ unfolding byTime
 time-lawful = guarded-lawful inTurn (record { size = turn-size; parts = turn-parts; whole = λ row q h e. turn-whole row q })
 
 -- rotation ------------------------------------------------------------------------------------------------------------
-round-size : (row : List ℕ) (q : ℕ) → length (round row q) ≡ length row
+pub round-size : (row : List ℕ) (q : ℕ) → length (round row q) ≡ length row
 round-size [] q = refl
 round-size (a ∷ rest) q = ap suc (round-size rest (q - min lot (min a q)))
 
@@ -204,7 +204,7 @@ parts-total [] (g ∷ gs) z = absurd z
 parts-total (a ∷ row) [] z = absurd z
 parts-total (a ∷ row) (g ∷ gs) z = omega (arith, z .0 .0, parts-total row gs (z .1))
 
-rounds-size : (k : ℕ) (row : List ℕ) (q : ℕ) → length (rounds k row q) ≡ length row
+pub rounds-size : (k : ℕ) (row : List ℕ) (q : ℕ) → length (rounds k row q) ≡ length row
 rounds-size zero row q = zeros-size row
 rounds-size (suc k) row q = point-size _+_ (round row q) _ ∙ round-size row q
 
