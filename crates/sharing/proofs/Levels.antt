@@ -13,7 +13,7 @@ use Rattle.std.proofs.shelf.Tests.{cases-lt, cases-eq, cases-bool, false≢true
 use Rattle.std.proofs.shelf.Ways.{tells}
 use Rattle.sharing.specs.Shares.{lot, mostShares, mostEntries, total, zeros}
 use Rattle.sharing.specs.Turns.{pointwise, round, rounds, inRounds, above, leastAbove, lastRound}
-use Rattle.sharing.specs.Keeps.{Lawful, Whole, wholes, round-most, round-size, rounds-size, point-size}
+use Rattle.sharing.specs.Keeps.{Lawful, Whole, wholes, zeros-size, zeros-total, round-most, round-size, rounds-size, point-size}
 
 -- what whole rounds up to a level have given, and what they leave open
 abbrev upTo : ℕ → List ℕ → List ℕ
@@ -83,10 +83,6 @@ nothing [] (a ∷ row) e z = absurd (omega arith)
 nothing (g ∷ gs) [] e z = absurd (omega arith)
 nothing (g ∷ gs) (a ∷ row) e z = both _ _ _ _ (omega arith) (nothing gs row (omega arith) (omega arith))
 
-zeros-total : (row : List ℕ) → total (zeros row) ≡ 0
-zeros-total [] = refl
-zeros-total (a ∷ rest) = omega (arith, zeros-total rest)
-
 less-zeros : (row : List ℕ) → pointwise _-_ row (zeros row) ≡ row
 less-zeros [] = refl
 less-zeros (a ∷ rest) = both _ _ _ _ (omega arith) (less-zeros rest)
@@ -95,10 +91,6 @@ plus-zeros : (gs row : List ℕ) → length row ≡ length gs → pointwise _+_ 
 plus-zeros [] row e = refl
 plus-zeros (g ∷ gs) [] e = refl
 plus-zeros (g ∷ gs) (a ∷ row) e = both _ _ _ _ (omega arith) (plus-zeros gs row (omega arith))
-
-zeros-size : (row : List ℕ) → length (zeros row) ≡ length row
-zeros-size [] = refl
-zeros-size (a ∷ rest) = ap suc (zeros-size rest)
 
 round-within : (row : List ℕ) (q : ℕ) → total (round row q) ≤ total row
 round-within [] q = omega arith

@@ -82,7 +82,7 @@ parts-lots [] (a ∷ row) h = absurd h
 parts-lots (g ∷ gs) [] h = absurd h
 parts-lots (g ∷ gs) (a ∷ row) h = (h .0 .0, parts-lots gs row (h .1))
 
-zeros-size : (row : List ℕ) → length (zeros row) ≡ length row
+pub zeros-size : (row : List ℕ) → length (zeros row) ≡ length row
 zeros-size [] = refl
 zeros-size (a ∷ rest) = ap suc (zeros-size rest)
 
@@ -194,7 +194,7 @@ both-total (a ∷ row) [] hs z y = absurd z
 both-total (a ∷ row) (g ∷ gs) [] z y = absurd y
 both-total (a ∷ row) (g ∷ gs) (h ∷ hs) z y = omega (arith, both-total row gs hs (z .1) (y .1))
 
-zeros-total : (row : List ℕ) → total (zeros row) ≡ 0
+pub zeros-total : (row : List ℕ) → total (zeros row) ≡ 0
 zeros-total [] = refl
 zeros-total (a ∷ rest) = omega (arith, zeros-total rest)
 

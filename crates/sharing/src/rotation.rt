@@ -3,7 +3,7 @@ ghost use mathlib.Core.Bool.{true};
 ghost use Prim.Native.Nat.{_-_, _*_, _/_, _≤_};
 ghost use lib.ListN.{length};
 ghost use Rattle.sharing.specs.Shares.{shareable, lot, mostShares, mostEntries};
-ghost use Rattle.sharing.specs.Turns.{above, leastAbove, lastRound, inRounds, byRotation, TakesTurns};
+ghost use Rattle.sharing.specs.Turns.{above, leastAbove, lastRound, inRounds, byRotation, TakesTurns, Rotates, OnlyRotation};
 ghost use Rattle.sharing.specs.Keeps.{rotation-lawful};
 use crate::rule::LOT;
 use crate::rule::MOST_SHARES;
@@ -32,7 +32,7 @@ impl Unfilled {
     }
 }
 
-// Where whole rounds end: every entry has been given shares up to the level, and what is left pays for no further round.
+// Where whole rounds end: every entry has been given shares up to the level, or is filled, and the last round shares out what is left.
 #[derive(Clone, Copy)]
 struct Paid {
     level: u32,
@@ -66,8 +66,9 @@ fn rounds_paid(left: u32, count: u32) -> u32
     if count == 0 { 0 } else { left / (LOT * count) }
 }
 
-// Pays for all the rounds up to the least unfilled entry at once, while the quantity lasts. Each turn fills all entries of one size,
-// so there are at most as many turns as different entries, and one scan of the row for each turn and one before them.
+// Pays for all rounds up to the least unfilled entry at once, as long as the quantity does, and then for the whole rounds that it still
+// pays for. Each turn of the loop scans the row once and fills all entries of one size, so there are at most as many turns as
+// different entries: that number is the loop's measure.
 fn whole_rounds(row: &[u32], quantity: u32) -> Paid
     requires { ⌜ shareable (now row) quantity ≡ true ⌝ }
     ensures { λ r. ⌜ lastRound (r .level) (now (row .entry)) (r .left) ≡ inRounds (now (row .entry)) quantity ⌝ }
@@ -116,4 +117,13 @@ pub impl ShareOut for Rotation as RotationShareOut {
             give_nothing(row);
         }
     }
+}
+
+// Rotation takes turns, and no other lawful rule does: a carrier of that theorem, with nothing to compute.
+pub fn rotation_alone_takes_turns() -> bool
+    ensures answer { λ r. ⌜ r ≡ true ⌝ }
+    ensures turns { λ _. ⌜ Rotates byRotation ⌝ }
+    ensures alone { λ _. ⌜ OnlyRotation ⌝ }
+{
+    true
 }

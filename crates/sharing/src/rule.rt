@@ -1,7 +1,8 @@
 ghost use mathlib.Core.Path.{_≡_};
+ghost use mathlib.Core.Bool.{cond};
 ghost use mathlib.Core.List.{List};
 ghost use Prim.Native.Nat.{ℕ};
-ghost use Rattle.sharing.specs.Shares.{lawfulShares, shareable, zeros, LawfulRule};
+ghost use Rattle.sharing.specs.Shares.{total, lawfulShares, shareable, zeros, LawfulRule};
 
 // Shares are traded in lots.
 pub const LOT: u32 = 100;
@@ -55,4 +56,19 @@ pub(crate) fn give_nothing(row: &mut [u32])
     for entry in row.iter_mut() {
         *entry = 0;
     }
+}
+
+// Shares out by whatever rule, and answers how many shares were given: all of the quantity, or none.
+pub fn share_out_counted<R: ShareOut>(rule: &R, row: &mut [u32], quantity: u32) -> u32
+    ensures gifts { λ _. ⌜ now (row .exit) ≡ gifts (now (rule .entry)) (now (row .entry)) quantity ⌝ }
+    ensures counted { λ r. ⌜ r ≡ total (now (row .exit)) ⌝ }
+    ensures all { λ r. ⌜ r ≡ cond (shareable (now (row .entry)) quantity) quantity 0 ⌝ }
+{
+    let given = if can_share(row, quantity) {
+        quantity
+    } else {
+        0
+    };
+    rule.share_out(row, quantity);
+    given
 }
