@@ -13,7 +13,7 @@ use Rattle.std.proofs.shelf.Tests.{cases-lt, cases-eq, cases-bool, false≢true
 use Rattle.std.proofs.shelf.Ways.{tells}
 use Rattle.sharing.specs.Shares.{lot, mostShares, mostEntries, total, zeros}
 use Rattle.sharing.specs.Turns.{pointwise, round, rounds, inRounds, above, leastAbove, lastRound}
-use Rattle.sharing.specs.Keeps.{Lawful, Whole, wholes, zeros-size, zeros-total, round-most, round-size, rounds-size, point-size}
+use Rattle.sharing.specs.Keeps.{Lots, Whole, wholes, zeros-size, zeros-total, round-most, round-size, rounds-size, point-size}
 
 -- what whole rounds up to a level have given, and what they leave open
 abbrev upTo : ℕ → List ℕ → List ℕ
@@ -195,19 +195,19 @@ least-over : (l : ℕ) (row : List ℕ) → l < mostShares → l < leastAbove l 
 least-over l [] h = h
 least-over l (a ∷ rest) h = let i = least-over l rest h in grind (arith, tells)
 
-under-most : (l : ℕ) (row : List ℕ) → All Lawful row → 0 < above l row → l < mostShares
+under-most : (l : ℕ) (row : List ℕ) → All (Lots mostShares) row → 0 < above l row → l < mostShares
 under-most l [] h some = absurd (omega arith)
 under-most l (a ∷ rest) h some =
-    ⊎-elim (λ (s : l < a). omega (arith, h .0 .most)) (λ (s : a ≤ l). under-most l rest (h .1) (grind (arith, tells))) (cases-lt l a)
+    ⊎-elim (λ (s : l < a). omega (arith, h .0 .most′)) (λ (s : a ≤ l). under-most l rest (h .1) (grind (arith, tells))) (cases-lt l a)
 
-least-has : (l : ℕ) (row : List ℕ) → All Lawful row → 0 < above l row → has (leastAbove l row) row ≡ true
+least-has : (l : ℕ) (row : List ℕ) → All (Lots mostShares) row → 0 < above l row → has (leastAbove l row) row ≡ true
 least-has l [] h some = absurd (omega arith)
 least-has l (a ∷ rest) h some =
     let later : leastAbove l (a ∷ rest) ≡ leastAbove l rest → 0 < above l rest → has (leastAbove l (a ∷ rest)) (a ∷ rest) ≡ true =
     λ e u. or-right (eqb (leastAbove l (a ∷ rest)) a) (has (leastAbove l (a ∷ rest)) rest) (ap (λ x. has x rest) e ∙ least-has l rest (h .1) u) in
     ⊎-elim
     (λ (s : l < a). ⊎-elim
-    (λ (t : leastAbove l rest < a). later (grind (arith, tells)) (⊎-elim (λ (u : 0 < above l rest). u) (λ (u : above l rest ≤ 0). absurd (omega (arith, least-none l rest (omega arith), h .0 .most))) (cases-lt 0 (above l rest))))
+    (λ (t : leastAbove l rest < a). later (grind (arith, tells)) (⊎-elim (λ (u : 0 < above l rest). u) (λ (u : above l rest ≤ 0). absurd (omega (arith, least-none l rest (omega arith), h .0 .most′))) (cases-lt 0 (above l rest))))
     (λ (t : a ≤ leastAbove l rest). or-left (eqb (leastAbove l (a ∷ rest)) a) (has (leastAbove l (a ∷ rest)) rest) (eq-eqb (leastAbove l (a ∷ rest)) a (grind (arith, tells))))
     (cases-lt (leastAbove l rest) a))
     (λ (s : a ≤ l). later (grind (arith, tells)) (grind (arith, tells)))
@@ -219,16 +219,16 @@ least-most l (a ∷ rest) = let i = least-most l rest in grind (arith, tells)
 
 pub record Least (l : ℕ) (row : List ℕ) : Type 0 where
   pub over : l < leastAbove l row
-  pub lawful : Lawful (leastAbove l row)
+  pub lawful : Lots mostShares (leastAbove l row)
   pub held : has (leastAbove l row) row ≡ true
 
-pub least-is : (l : ℕ) (row : List ℕ) → All Lawful row → 0 < above l row → Least l row
+pub least-is : (l : ℕ) (row : List ℕ) → All (Lots mostShares) row → 0 < above l row → Least l row
 least-is l row h some =
     let i : has (leastAbove l row) row ≡ true = least-has l row h some in
-    record { over = least-over l row (under-most l row h some); lawful = has-all Lawful (leastAbove l row) row h i; held = i }
+    record { over = least-over l row (under-most l row h some); lawful = has-all (Lots mostShares) (leastAbove l row) row h i; held = i }
 
-pub cost-asks : (l n least : ℕ) (row : List ℕ) → All Lawful row → n ≡ above l row → least ≡ leastAbove l row → n ≤ mostEntries → 0 < n → (l ≤ least) × ((least ≤ mostShares) × (n ≤ mostEntries))
-cost-asks l n least row h count next few some = let i = least-is l row h (omega arith) in (omega (arith, i .over), (omega (arith, i .lawful .most), few))
+pub cost-asks : (l n least : ℕ) (row : List ℕ) → All (Lots mostShares) row → n ≡ above l row → least ≡ leastAbove l row → n ≤ mostEntries → 0 < n → (l ≤ least) × ((least ≤ mostShares) × (n ≤ mostEntries))
+cost-asks l n least row h count next few some = let i = least-is l row h (omega arith) in (omega (arith, i .over), (omega (arith, i .lawful .most′), few))
 
 -- how many different entries are above a level
 abbrev pub kinds : ℕ → List ℕ → ℕ
@@ -270,7 +270,7 @@ start-beyond (a ∷ rest) = both _ _ _ _ (omega arith) (start-beyond rest)
 pub after-none : (k q : ℕ) (row : List ℕ) → after 0 k row q ≡ rounds k row q
 after-none k q row = ap (λ r. pointwise _+_ (upTo 0 row) (rounds k r q)) (start-beyond row) ∙ start-plus row (rounds k row q) (rounds-size k row q)
 
-module _ (row given : List ℕ) (l q n least k : ℕ) (h : All Lawful row) (e : Whole l) (count : n ≡ above l row) (next : least ≡ leastAbove l row) (f : q ≤ lot * k) (is : after l k row q ≡ given) where
+module _ (row given : List ℕ) (l q n least k : ℕ) (h : All (Lots mostShares) row) (e : Whole l) (count : n ≡ above l row) (next : least ≡ leastAbove l row) (f : q ≤ lot * k) (is : after l k row q ≡ given) where
   pub next-level : 0 < n → (least - l) * n ≤ q → (j : ℕ) × (q - (least - l) * n ≤ lot * j) × (after least j row (q - (least - l) * n) ≡ given)
   next-level some pays′ =
       let m : ℕ = (least - l) / lot in

@@ -6,10 +6,12 @@ use Prim.Native.Nat.{ℕ, suc, zero, min, _+_, _-_, _*_, _%_, _<_, _≤_}
 use native.Mathlib.Omega.{arith}
 use lib.Dec.{leb, ltb, eqb}
 use lib.ListN.{length, getD, take, drop, set}
+use Rattle.std.specs.shelf.Lists.{All}
 use Rattle.std.proofs.shelf.Lists.{take-more-set, drop-set-lt, at-drop-more, take-all, drop-all}
 use Rattle.std.proofs.shelf.Tests.{lt-ltb, le-ltb}
 use Rattle.std.proofs.shelf.Ways.{tells}
-use Rattle.sharing.specs.Shares.{lot, mostShares, mostEntries, total, zeros, lawfulShares, allLawful, shareable}
+use Rattle.sharing.specs.Shares.{lot, mostShares, mostEntries, total, zeros, wholeLots, allLawful, lawfulRow}
+use Rattle.sharing.specs.Keeps.{Lots}
 use Rattle.sharing.specs.Turns.{inTurn, above, leastAbove, lastRound}
 
 -- a loop that writes over each element: G says what becomes of the rest, and H of the rest behind it
@@ -33,9 +35,9 @@ module _ (xs : List ℕ) (i : ℕ) (h : i < length xs) where
   pub total-more : total (drop i xs) ≡ getD xs i 0 + total (drop (i + 1) xs)
   total-more = at-drop-more total xs i 0 h
 
-  pub lawful-more : (b : Bool) → b ≡ lawfulShares (getD xs i 0) → allLawful (drop i xs) ≡ (b && allLawful (drop (i + 1) xs))
+  pub lawful-more : (b : Bool) → b ≡ wholeLots mostShares (getD xs i 0) → allLawful (drop i xs) ≡ (b && allLawful (drop (i + 1) xs))
   lawful-more b e =
-      let step : allLawful (drop i xs) ≡ (lawfulShares (getD xs i 0) && allLawful (drop (i + 1) xs)) = at-drop-more allLawful xs i 0 h in
+      let step : allLawful (drop i xs) ≡ (wholeLots mostShares (getD xs i 0) && allLawful (drop (i + 1) xs)) = at-drop-more allLawful xs i 0 h in
       step ∙ ap (λ t. t && allLawful (drop (i + 1) xs)) (sym e)
 
   module _ (l : ℕ) where
@@ -62,9 +64,13 @@ module _ (xs : List ℕ) (i : ℕ) (h : i < length xs) where
         let step : lastRound l (drop i xs) q ≡ (min (getD xs i 0) l + min lot (min (getD xs i 0 - l) q)) ∷ lastRound l (drop (i + 1) xs) (q - min lot (min (getD xs i 0 - l) q)) = at-drop-more (λ r. lastRound l r q) xs i 0 h in
         step ∙ ap (λ k. (min (getD xs i 0) l + k) ∷ lastRound l (drop (i + 1) xs) (q - k)) (sym e) ∙ ap (λ k. k ∷ lastRound l (drop (i + 1) xs) (q - g)) (sym f)
 
--- the check of a row and a quantity
-pub not-shareable : (row : List ℕ) (q : ℕ) → allLawful row ≡ false → false ≡ shareable row q
-not-shareable row q e = grind (arith, tells)
+-- the check of a row
+pub not-lawful : (row : List ℕ) → allLawful row ≡ false → false ≡ lawfulRow row
+not-lawful row e = grind (arith, tells)
 
-pub shares-told : (row : List ℕ) (q sum : ℕ) → 0 < length row → length row ≤ mostEntries → allLawful row ≡ true → q % lot ≡ 0 → lot ≤ q → sum ≡ total row → leb q sum ≡ shareable row q
-shares-told row q sum some few all lots least is = grind (arith, tells)
+pub lawful-told : (row : List ℕ) → 0 < length row → length row ≤ mostEntries → allLawful row ≡ true → true ≡ lawfulRow row
+lawful-told row some few all = grind (arith, tells)
+
+pub total-most : (row : List ℕ) → All (Lots mostShares) row → total row ≤ mostShares * length row
+total-most [] h = omega arith
+total-most (a ∷ rest) h = omega (arith, h .0 .most′, total-most rest (h .1))

@@ -1,4 +1,4 @@
--- Rotation takes turns, and no other rule does. Assumes nothing.
+-- Rounds take turns, and there is no other way to take turns. Assumes nothing.
 use mathlib.Core.Path.{_≡_, refl, sym, ap, subst, _∙_}
 use mathlib.Core.Bool.{Bool, true, false, cond}
 use mathlib.Core.Logic.{_⊎_, inl, inr, ⊎-elim}
@@ -8,9 +8,9 @@ use native.Mathlib.Omega.{arith}
 use lib.ListN.{length, getD}
 use Rattle.std.specs.shelf.Lists.{All, Each}
 use Rattle.std.proofs.shelf.Lists.{ext-getD}
-use Rattle.std.proofs.shelf.Tests.{cases-lt, cases-order, cases-bool}
-use Rattle.sharing.specs.Shares.{lot, total, zeros, shareable, LawfulRule}
-use Rattle.sharing.specs.Turns.{pointwise, round, rounds, inRounds, byRotation, TakesTurns, Rotates, OnlyRotation}
+use Rattle.std.proofs.shelf.Tests.{cases-lt, cases-order, cond-true}
+use Rattle.sharing.specs.Shares.{lot, total, zeros, shareable}
+use Rattle.sharing.specs.Turns.{pointwise, round, rounds, inRounds, byRotation, TakesTurns, InTurns, OnlyTurns}
 use Rattle.sharing.specs.Keeps.{rounds-size, point-size, rotation-lawful}
 use Rattle.sharing.proofs.Levels.{wholeRound, not-spent, spent-last}
 
@@ -36,7 +36,7 @@ whole-size : (row : List ℕ) → length (wholeRound row) ≡ length row
 whole-size [] = refl
 whole-size (a ∷ rest) = ap suc (whole-size rest)
 
--- rotation takes turns ------------------------------------------------------------------------------------------------
+-- rounds take turns ------------------------------------------------------------------------------------------------
 at-round : (row : List ℕ) (q j : ℕ) → getD (round row q) j 0 ≤ min lot q
 at-round [] q j = omega arith
 at-round (a ∷ rest) q zero = omega arith
@@ -63,7 +63,7 @@ later-turns row later e turns i j h =
     let t = turns i j (omega arith) in
     (omega (arith, t .0), λ k. omega (arith, t .1 k))
 
-rounds-turns : (k : ℕ) (row : List ℕ) (q : ℕ) → TakesTurns row (rounds k row q)
+pub rounds-turns : (k : ℕ) (row : List ℕ) (q : ℕ) → TakesTurns row (rounds k row q)
 rounds-turns zero row q = zeros-turns row
 rounds-turns (suc k) row q =
     ⊎-elim
@@ -72,12 +72,7 @@ rounds-turns (suc k) row q =
     (λ (s : q ≤ total (round row q)). subst (TakesTurns row) (sym (spent-last k row q s)) (round-turns row q))
     (cases-lt (total (round row q)) q)
 
-pub rotates : Rotates byRotation
-unfolding byRotation
-rotates row q =
-    elim (shareable row q) as (λ b. TakesTurns row (cond b (inRounds row q) (zeros row))) [ true ↦ rounds-turns (q / lot) row q | false ↦ zeros-turns row ]
-
--- no other rule does --------------------------------------------------------------------------------------------------
+-- nothing else does --------------------------------------------------------------------------------------------------
 at-all : (gs : List ℕ) → All (λ gift. gift % lot ≡ 0) gs → (i : ℕ) → getD gs i 0 % lot ≡ 0
 at-all [] h i = refl
 at-all (g ∷ gs) h zero = h .0
@@ -118,24 +113,7 @@ less (x ∷ xs) [] e n i s = absurd (omega arith)
 less (x ∷ xs) (y ∷ ys) e n zero s = omega (arith, at-most xs ys (omega arith) (λ j. n (suc j)))
 less (x ∷ xs) (y ∷ ys) e n (suc i) s = let z : x ≤ y = n 0 in omega (arith, less xs ys (omega arith) (λ j. n (suc j)) i s)
 
--- what the two laws leave of the gifts for a row
-record Gifts (row gs : List ℕ) (q : ℕ) : Type 0 where
-  size : length gs ≡ length row
-  whole : total gs ≡ q
-  within : (i : ℕ) → getD gs i 0 ≤ getD row i 0
-  lots : (i : ℕ) → getD gs i 0 % lot ≡ 0
-  turns : TakesTurns row gs
-
-gifts-of : (gifts : List ℕ → ℕ → List ℕ) → LawfulRule gifts → Rotates gifts → (row : List ℕ) (q : ℕ) → shareable row q ≡ true → Gifts row (gifts row q) q
-gifts-of gifts law turns row q e = record {
-  size = law .size row q;
-  whole = law .whole row q e;
-  within = at-each (gifts row q) row (law .within row q);
-  lots = at-all (gifts row q) (law .lots row q);
-  turns = turns row q;
-}
-
-never-less : (row gs hs : List ℕ) (q : ℕ) → Gifts row gs q → Gifts row hs q → (i : ℕ) → getD gs i 0 < getD hs i 0 → ⊥
+never-less : (row gs hs : List ℕ) (q : ℕ) → InTurns row q gs → InTurns row q hs → (i : ℕ) → getD gs i 0 < getD hs i 0 → ⊥
 never-less row gs hs q g h i s =
     ⊎-elim
     (λ (m : (j : ℕ) × (getD hs j 0 < getD gs j 0)). clash (m .0) (m .1))
@@ -144,17 +122,17 @@ never-less row gs hs q g h i s =
   where
     clash : (j : ℕ) → getD hs j 0 < getD gs j 0 → ⊥
     clash j t =
-        let a = g .turns i j (omega (arith, h .within i)) in
-        let b = h .turns j i (omega (arith, g .within j)) in
-        let step : getD gs i 0 + lot ≤ getD hs i 0 = omega (arith, g .lots i, h .lots i) in
-        let step′ : getD hs j 0 + lot ≤ getD gs j 0 = omega (arith, g .lots j, h .lots j) in
+        let a = g .turns i j (omega (arith, at-each hs row (h .within) i)) in
+        let b = h .turns j i (omega (arith, at-each gs row (g .within) j)) in
+        let step : getD gs i 0 + lot ≤ getD hs i 0 = omega (arith, at-all gs (g .lots) i, at-all hs (h .lots) i) in
+        let step′ : getD hs j 0 + lot ≤ getD gs j 0 = omega (arith, at-all gs (g .lots) j, at-all hs (h .lots) j) in
         ⊎-elim
         (λ (same : i ≡ j). let u : getD hs i 0 < getD gs i 0 = subst (λ x. getD hs x 0 < getD gs x 0) (sym same) t in omega arith)
         (⊎-elim (λ (before : i < j). omega (arith, a .1 before)) (λ (behind : j < i). omega (arith, b .1 behind)))
         (cases-order i j)
 
-same-gifts : (row gs hs : List ℕ) (q : ℕ) → Gifts row gs q → Gifts row hs q → gs ≡ hs
-same-gifts row gs hs q g h = ext-getD 0 gs hs (g .size ∙ sym (h .size)) (λ i _. at i)
+same-turns : (row gs hs : List ℕ) (q : ℕ) → InTurns row q gs → InTurns row q hs → gs ≡ hs
+same-turns row gs hs q g h = ext-getD 0 gs hs (g .size ∙ sym (h .size)) (λ i _. at i)
   where
     at : (i : ℕ) → getD gs i 0 ≡ getD hs i 0
     at i =
@@ -163,9 +141,18 @@ same-gifts row gs hs q g h = ext-getD 0 gs hs (g .size ∙ sym (h .size)) (λ i 
         (⊎-elim (λ (s : getD gs i 0 < getD hs i 0). absurd (never-less row gs hs q g h i s)) (λ (s : getD hs i 0 < getD gs i 0). absurd (never-less row hs gs q h g i s)))
         (cases-order (getD gs i 0) (getD hs i 0))
 
-pub only-rotation : OnlyRotation
-only-rotation gifts law turns row q =
-    ⊎-elim
-    (λ (e : shareable row q ≡ true). same-gifts row (gifts row q) (byRotation row q) q (gifts-of gifts law turns row q e) (gifts-of byRotation rotation-lawful rotates row q e))
-    (λ (e : shareable row q ≡ false). law .other row q e ∙ sym (rotation-lawful .other row q e))
-    (cases-bool (shareable row q))
+module _ (row : List ℕ) (q : ℕ) (e : shareable row q ≡ true) where
+  is-rounds : byRotation row q ≡ inRounds row q
+  is-rounds = cond-true (shareable row q) (inRounds row q) (zeros row) e
+
+  pub rounds-in-turns : InTurns row q (inRounds row q)
+  rounds-in-turns = record {
+    size = rounds-size (q / lot) row q;
+    whole = sym (ap total is-rounds) ∙ rotation-lawful .whole row q e;
+    within = subst (λ gs. Each (λ gift entry. gift ≤ entry) gs row) is-rounds (rotation-lawful .within row q);
+    lots = subst (All (λ gift. gift % lot ≡ 0)) is-rounds (rotation-lawful .lots row q);
+    turns = rounds-turns (q / lot) row q;
+  }
+
+  pub rounds-alone : OnlyTurns row q (inRounds row q)
+  rounds-alone other turns = same-turns row other (inRounds row q) q turns rounds-in-turns

@@ -8,56 +8,46 @@ use lib.Dec.{leb, eqb}
 use lib.ListN.{length}
 use Rattle.std.specs.shelf.Lists.{All, Each}
 use Rattle.std.proofs.shelf.Tests.{false≢true, and-parts, leb-true, eqb-true, cond-true, cond-false, cases-bool}
-use Rattle.sharing.specs.Shares.{lot, mostShares, mostEntries, total, zeros, lawfulShares, allLawful, shareable, guarded, LawfulRule}
+use Rattle.sharing.specs.Shares.{lot, mostShares, mostEntries, total, zeros, wholeLots, allLawful, lawfulRow, shareable, guarded, LawfulRule}
 use Rattle.sharing.specs.Turns.{inTurn, byTime, pointwise, round, rounds, inRounds, byRotation}
 
 -- a row and a quantity that can be shared out, taken apart ------------------------------------------------------------
-pub record Lawful (a : ℕ) : Type 0 where
-  pub least : lot ≤ a
-  pub most : a ≤ mostShares
-  pub lots : a % lot ≡ 0
+pub record Lots (most n : ℕ) : Type 0 where
+  pub least : lot ≤ n
+  pub most′ : n ≤ most
+  pub lots : n % lot ≡ 0
 
-pub record Shareable (row : List ℕ) (q : ℕ) : Type 0 where
-  pub some : 1 ≤ length row
-  pub few : length row ≤ mostEntries
-  pub each : All Lawful row
-  pub lots : q % lot ≡ 0
-  pub least : lot ≤ q
-  pub most : q ≤ total row
+pub lots-parts : (most n : ℕ) → wholeLots most n ≡ true → Lots most n
+lots-parts most n e =
+    let x : ((leb lot n && leb n most) ≡ true) × (eqb (n % lot) 0 ≡ true) = and-parts (leb lot n && leb n most) (eqb (n % lot) 0) e in
+    let y : (leb lot n ≡ true) × (leb n most ≡ true) = and-parts (leb lot n) (leb n most) (x .0) in
+    record { least = leb-true lot n (y .0); most′ = leb-true n most (y .1); lots = eqb-true (n % lot) 0 (x .1) }
 
-pub lawful-parts : (a : ℕ) → lawfulShares a ≡ true → Lawful a
-lawful-parts a e =
-    let x : ((leb lot a && leb a mostShares) ≡ true) × (eqb (a % lot) 0 ≡ true) = and-parts (leb lot a && leb a mostShares) (eqb (a % lot) 0) e in
-    let y : (leb lot a ≡ true) × (leb a mostShares ≡ true) = and-parts (leb lot a) (leb a mostShares) (x .0) in
-    record { least = leb-true lot a (y .0); most = leb-true a mostShares (y .1); lots = eqb-true (a % lot) 0 (x .1) }
-
-pub lawful-each : (row : List ℕ) → allLawful row ≡ true → All Lawful row
+pub lawful-each : (row : List ℕ) → allLawful row ≡ true → All (Lots mostShares) row
 lawful-each [] e = tt
 lawful-each (a ∷ rest) e =
-    let x : (lawfulShares a ≡ true) × (allLawful rest ≡ true) = and-parts (lawfulShares a) (allLawful rest) e in
-    (lawful-parts a (x .0), lawful-each rest (x .1))
+    let x : (wholeLots mostShares a ≡ true) × (allLawful rest ≡ true) = and-parts (wholeLots mostShares a) (allLawful rest) e in
+    (lots-parts mostShares a (x .0), lawful-each rest (x .1))
+
+pub record LawfulRow (row : List ℕ) : Type 0 where
+  pub some : 1 ≤ length row
+  pub few : length row ≤ mostEntries
+  pub each : All (Lots mostShares) row
+
+pub row-parts : (row : List ℕ) → lawfulRow row ≡ true → LawfulRow row
+row-parts row e =
+    let x : ((leb 1 (length row) && leb (length row) mostEntries) ≡ true) × (allLawful row ≡ true) = and-parts (leb 1 (length row) && leb (length row) mostEntries) (allLawful row) e in
+    let y : (leb 1 (length row) ≡ true) × (leb (length row) mostEntries ≡ true) = and-parts (leb 1 (length row)) (leb (length row) mostEntries) (x .0) in
+    record { some = leb-true 1 (length row) (y .0); few = leb-true (length row) mostEntries (y .1); each = lawful-each row (x .1) }
+
+pub record Shareable (row : List ℕ) (q : ℕ) : Type 0 where
+  pub entries : LawfulRow row
+  pub quantity : Lots (total row) q
 
 pub shareable-parts : (row : List ℕ) (q : ℕ) → shareable row q ≡ true → Shareable row q
 shareable-parts row q e =
-    let a : Bool = leb 1 (length row) in
-    let b : Bool = leb (length row) mostEntries in
-    let c : Bool = allLawful row in
-    let d : Bool = eqb (q % lot) 0 in
-    let f : Bool = leb lot q in
-    let g : Bool = leb q (total row) in
-    let p : ((a && b && c && d && f) ≡ true) × (g ≡ true) = and-parts (a && b && c && d && f) g e in
-    let r : ((a && b && c && d) ≡ true) × (f ≡ true) = and-parts (a && b && c && d) f (p .0) in
-    let s : ((a && b && c) ≡ true) × (d ≡ true) = and-parts (a && b && c) d (r .0) in
-    let t : ((a && b) ≡ true) × (c ≡ true) = and-parts (a && b) c (s .0) in
-    let u : (a ≡ true) × (b ≡ true) = and-parts a b (t .0) in
-    record {
-      some = leb-true 1 (length row) (u .0);
-      few = leb-true (length row) mostEntries (u .1);
-      each = lawful-each row (t .1);
-      lots = eqb-true (q % lot) 0 (s .1);
-      least = leb-true lot q (r .1);
-      most = leb-true q (total row) (p .1);
-    }
+    let x : (lawfulRow row ≡ true) × (wholeLots (total row) q ≡ true) = and-parts (lawfulRow row) (wholeLots (total row) q) e in
+    record { entries = row-parts row (x .0); quantity = lots-parts (total row) q (x .1) }
 
 -- a way to share out that is asked only where it can be ---------------------------------------------------------------
 abbrev pub Whole : ℕ → Type 0
@@ -66,7 +56,7 @@ Whole a = a % lot ≡ 0
 abbrev pub Part : ℕ → ℕ → Type 0
 Part g a = (g % lot ≡ 0) × (g ≤ a)
 
-pub wholes : (row : List ℕ) → All Lawful row → All Whole row
+pub wholes : (row : List ℕ) → All (Lots mostShares) row → All Whole row
 wholes [] h = tt
 wholes (a ∷ rest) h = (h .0 .lots, wholes rest (h .1))
 
@@ -102,13 +92,13 @@ module _ (share : List ℕ → ℕ → List ℕ) (k : Keeps share) where
   at-size row q false = zeros-size row
 
   at-parts : (row : List ℕ) (q : ℕ) (b : Bool) → shareable row q ≡ b → Each Part (cond b (share row q) (zeros row)) row
-  at-parts row q true e = let s = shareable-parts row q e in k .parts row q (wholes row (s .each)) (s .lots)
+  at-parts row q true e = let s = shareable-parts row q e in k .parts row q (wholes row (s .entries .each)) (s .quantity .lots)
   at-parts row q false e = zeros-parts row
 
   at-whole : (row : List ℕ) (q : ℕ) → shareable row q ≡ true → total (guarded share row q) ≡ q
   at-whole row q e =
       let s = shareable-parts row q e in
-      ap total (cond-true (shareable row q) (share row q) (zeros row) e) ∙ k .whole row q (wholes row (s .each)) (s .lots) (s .most)
+      ap total (cond-true (shareable row q) (share row q) (zeros row) e) ∙ k .whole row q (wholes row (s .entries .each)) (s .quantity .lots) (s .quantity .most′)
 
   pub guarded-lawful : LawfulRule (guarded share)
   guarded-lawful = record {
@@ -133,7 +123,6 @@ turn-whole [] q h = omega arith
 turn-whole (a ∷ rest) q h = let i = turn-whole rest (q - min a q) (omega arith) in omega arith
 
 pub time-lawful : LawfulRule byTime
-unfolding byTime
 time-lawful = guarded-lawful inTurn (record { size = turn-size; parts = turn-parts; whole = λ row q h e. turn-whole row q })
 
 -- rotation ------------------------------------------------------------------------------------------------------------
@@ -234,7 +223,6 @@ rounds-whole (suc k) row q h e m l =
     go row (suc q) h e m l = omega (arith, round-least row (suc q) h e (omega arith) m)
 
 pub rotation-lawful : LawfulRule byRotation
-unfolding byRotation
 rotation-lawful = guarded-lawful inRounds (record {
   size = λ row q. rounds-size (q / lot) row q;
   parts = λ row q. rounds-parts (q / lot) row q;

@@ -27,17 +27,21 @@ abbrev pub zeros : List ℕ → List ℕ
 zeros [] = []
 zeros (a ∷ rest) = 0 ∷ zeros rest
 
--- lawful shares: whole lots, at least one, and not too many
-abbrev pub lawfulShares : ℕ → Bool
-lawfulShares a = leb lot a && leb a mostShares && eqb (a % lot) 0
+-- whole lots, at least one, and no more than so many shares
+abbrev pub wholeLots : ℕ → ℕ → Bool
+wholeLots most n = leb lot n && leb n most && eqb (n % lot) 0
 
 abbrev pub allLawful : List ℕ → Bool
 allLawful [] = true
-allLawful (a ∷ rest) = lawfulShares a && allLawful rest
+allLawful (a ∷ rest) = wholeLots mostShares a && allLawful rest
 
--- 1 to 512 lawful entries, and whole lots, at least one, up to their sum
+-- 1 to 512 entries, each a multiple of 100 from 100 to 1,000,000
+abbrev pub lawfulRow : List ℕ → Bool
+lawfulRow row = leb 1 (length row) && leb (length row) mostEntries && allLawful row
+
+-- a lawful row, and a multiple of 100 from 100 to its sum
 abbrev pub shareable : List ℕ → ℕ → Bool
-shareable row q = leb 1 (length row) && leb (length row) mostEntries && allLawful row && eqb (q % lot) 0 && leb lot q && leb q (total row)
+shareable row q = lawfulRow row && wholeLots (total row) q
 
 -- a way to share out, asked only at rows and quantities that can be shared out: for any other every gift is 0
 abbrev pub guarded : (List ℕ → ℕ → List ℕ) → List ℕ → ℕ → List ℕ

@@ -2,10 +2,11 @@
 use mathlib.Core.Path.{_≡_}
 use mathlib.Core.Bool.{Bool, true, false, cond}
 use mathlib.Core.List.{List, [], _∷_}
-use Prim.Native.Nat.{ℕ, zero, suc, min, _+_, _-_, _/_, _≤_, _<_}
+use Prim.Native.Nat.{ℕ, zero, suc, min, _+_, _-_, _/_, _%_, _≤_, _<_}
 use lib.Dec.{ltb}
 use lib.ListN.{length, getD}
-use Rattle.sharing.specs.Shares.{lot, mostShares, total, zeros, guarded, LawfulRule}
+use Rattle.std.specs.shelf.Lists.{All, Each}
+use Rattle.sharing.specs.Shares.{lot, mostShares, total, zeros, guarded}
 
 -- each entry in row order gets as much as is left
 abbrev pub inTurn : List ℕ → ℕ → List ℕ
@@ -13,7 +14,7 @@ inTurn [] q = []
 inTurn (a ∷ rest) q = min a q ∷ inTurn rest (q - min a q)
 
 -- time priority
-unfoldable pub byTime : List ℕ → ℕ → List ℕ
+abbrev pub byTime : List ℕ → ℕ → List ℕ
 byTime = guarded inTurn
 
 abbrev pub pointwise : (ℕ → ℕ → ℕ) → List ℕ → List ℕ → List ℕ
@@ -37,7 +38,7 @@ abbrev pub inRounds : List ℕ → ℕ → List ℕ
 inRounds row q = rounds (q / lot) row q
 
 -- rotation
-unfoldable pub byRotation : List ℕ → ℕ → List ℕ
+abbrev pub byRotation : List ℕ → ℕ → List ℕ
 byRotation = guarded inRounds
 
 -- Where the entry at i is not filled, no entry has more than 100 above what it has, and none behind it has more.
@@ -45,12 +46,17 @@ abbrev pub TakesTurns : List ℕ → List ℕ → Type 0
 TakesTurns row given =
     (i j : ℕ) → getD given i 0 < getD row i 0 → (getD given j 0 ≤ getD given i 0 + lot) × (i < j → getD given j 0 ≤ getD given i 0)
 
-abbrev pub Rotates : (List ℕ → ℕ → List ℕ) → Type 0
-Rotates gifts = (row : List ℕ) (q : ℕ) → TakesTurns row (gifts row q)
+-- the whole quantity given in lots, to no entry more than it has open, and in turns
+pub record InTurns (row : List ℕ) (q : ℕ) (given : List ℕ) : Type 0 where
+  pub size : length given ≡ length row
+  pub whole : total given ≡ q
+  pub within : Each (λ gift entry. gift ≤ entry) given row
+  pub lots : All (λ gift. gift % lot ≡ 0) given
+  pub turns : TakesTurns row given
 
--- rotation is the one rule that takes turns
-abbrev pub OnlyRotation : Type 0
-OnlyRotation = (gifts : List ℕ → ℕ → List ℕ) → LawfulRule gifts → Rotates gifts → (row : List ℕ) (q : ℕ) → gifts row q ≡ byRotation row q
+-- there is no other way to give it in turns
+abbrev pub OnlyTurns : List ℕ → ℕ → List ℕ → Type 0
+OnlyTurns row q given = (other : List ℕ) → InTurns row q other → other ≡ given
 
 -- how many entries are above a level
 abbrev pub above : ℕ → List ℕ → ℕ

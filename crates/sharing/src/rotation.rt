@@ -3,7 +3,7 @@ ghost use mathlib.Core.Bool.{true};
 ghost use Prim.Native.Nat.{_-_, _*_, _/_, _≤_};
 ghost use lib.ListN.{length};
 ghost use Rattle.sharing.specs.Shares.{shareable, lot, mostShares, mostEntries};
-ghost use Rattle.sharing.specs.Turns.{above, leastAbove, lastRound, inRounds, byRotation, TakesTurns, Rotates, OnlyRotation};
+ghost use Rattle.sharing.specs.Turns.{above, leastAbove, lastRound, inRounds, byRotation, InTurns, OnlyTurns};
 ghost use Rattle.sharing.specs.Keeps.{rotation-lawful};
 use crate::rule::LOT;
 use crate::rule::MOST_SHARES;
@@ -101,29 +101,31 @@ fn last_round(row: &mut [u32], level: u32, quantity: u32)
     }
 }
 
+fn rotate(row: &mut [u32], quantity: u32)
+    requires { ⌜ shareable (now row) quantity ≡ true ⌝ }
+    ensures gifts { λ _. ⌜ now (row .exit) ≡ inRounds (now (row .entry)) quantity ⌝ }
+    ensures turns { λ _. ⌜ InTurns (now (row .entry)) quantity (now (row .exit)) ⌝ }
+    ensures alone { λ _. ⌜ OnlyTurns (now (row .entry)) quantity (now (row .exit)) ⌝ }
+{
+    let paid = whole_rounds(row, quantity);
+    last_round(row, paid.level, paid.left);
+}
+
 pub impl ShareOut for Rotation as RotationShareOut {
     ghost gifts = { λ _. byRotation };
 
     ghost lawful = { λ _. rotation-lawful };
 
+    // The gifts take turns, and no other gifts do.
     fn share_out(&self, row: &mut [u32], quantity: u32)
         ensures gifts { λ _. ⌜ now (row .exit) ≡ byRotation (now (row .entry)) quantity ⌝ }
-        ensures turns { λ _. ⌜ TakesTurns (now (row .entry)) (now (row .exit)) ⌝ }
+        ensures turns { λ _. ⌜ (shareable (now (row .entry)) quantity ≡ true → InTurns (now (row .entry)) quantity (now (row .exit))) ⌝ }
+        ensures alone { λ _. ⌜ (shareable (now (row .entry)) quantity ≡ true → OnlyTurns (now (row .entry)) quantity (now (row .exit))) ⌝ }
     {
         if can_share(row, quantity) {
-            let paid = whole_rounds(row, quantity);
-            last_round(row, paid.level, paid.left);
+            rotate(row, quantity);
         } else {
             give_nothing(row);
         }
     }
-}
-
-// Rotation takes turns, and no other lawful rule does: a carrier of that theorem, with nothing to compute.
-pub fn rotation_alone_takes_turns() -> bool
-    ensures answer { λ r. ⌜ r ≡ true ⌝ }
-    ensures turns { λ _. ⌜ Rotates byRotation ⌝ }
-    ensures alone { λ _. ⌜ OnlyRotation ⌝ }
-{
-    true
 }

@@ -1,8 +1,8 @@
 ghost use mathlib.Core.Path.{_≡_};
-ghost use mathlib.Core.Bool.{cond};
+ghost use mathlib.Core.Bool.{true, cond};
 ghost use mathlib.Core.List.{List};
 ghost use Prim.Native.Nat.{ℕ};
-ghost use Rattle.sharing.specs.Shares.{total, lawfulShares, shareable, zeros, LawfulRule};
+ghost use Rattle.sharing.specs.Shares.{total, wholeLots, lawfulRow, shareable, zeros, LawfulRule};
 
 // Shares are traded in lots.
 pub const LOT: u32 = 100;
@@ -26,27 +26,44 @@ pub trait ShareOut {
         ensures { λ _. ⌜ now (row .exit) ≡ gifts (now (self .entry)) (now (row .entry)) quantity ⌝ };
 }
 
-fn is_lawful(shares: u32) -> bool
-    ensures { λ r. ⌜ r ≡ lawfulShares shares ⌝ }
+// Whole lots, at least one, and no more than so many shares.
+fn is_whole_lots(shares: u32, most: u32) -> bool
+    ensures { λ r. ⌜ r ≡ wholeLots most shares ⌝ }
 {
-    shares >= LOT && shares <= MOST_SHARES && shares % LOT == 0
+    shares >= LOT && shares <= most && shares % LOT == 0
+}
+
+fn is_lawful_row(row: &[u32]) -> bool
+    ensures { λ r. ⌜ r ≡ lawfulRow (now (row .entry)) ⌝ }
+{
+    if row.is_empty() || row.len() > MOST_ENTRIES {
+        return false;
+    }
+    for entry in row {
+        if !is_whole_lots(*entry, MOST_SHARES) {
+            return false;
+        }
+    }
+    true
+}
+
+// The sum of a lawful row: 512 entries of 1,000,000 fit.
+fn sum_of(row: &[u32]) -> u32
+    requires { ⌜ lawfulRow (now row) ≡ true ⌝ }
+    ensures { λ r. ⌜ r ≡ total (now (row .entry)) ⌝ }
+{
+    let mut sum = 0;
+    for entry in row {
+        sum += *entry;
+    }
+    sum
 }
 
 // Whether the quantity can be shared out over the row: else every rule gives nothing.
 pub fn can_share(row: &[u32], quantity: u32) -> bool
     ensures { λ r. ⌜ r ≡ shareable (now (row .entry)) quantity ⌝ }
 {
-    if row.is_empty() || row.len() > MOST_ENTRIES {
-        return false;
-    }
-    let mut sum: u32 = 0;
-    for entry in row {
-        if !is_lawful(*entry) {
-            return false;
-        }
-        sum += *entry;
-    }
-    quantity % LOT == 0 && quantity >= LOT && quantity <= sum
+    is_lawful_row(row) && is_whole_lots(quantity, sum_of(row))
 }
 
 // Every gift 0.
@@ -61,14 +78,10 @@ pub(crate) fn give_nothing(row: &mut [u32])
 // Shares out by whatever rule, and answers how many shares were given: all of the quantity, or none.
 pub fn share_out_counted<R: ShareOut>(rule: &R, row: &mut [u32], quantity: u32) -> u32
     ensures gifts { λ _. ⌜ now (row .exit) ≡ gifts (now (rule .entry)) (now (row .entry)) quantity ⌝ }
-    ensures counted { λ r. ⌜ r ≡ total (now (row .exit)) ⌝ }
-    ensures all { λ r. ⌜ r ≡ cond (shareable (now (row .entry)) quantity) quantity 0 ⌝ }
+    ensures counted { λ r. ⌜ r ≡ cond (shareable (now (row .entry)) quantity) quantity 0 ⌝ }
+    ensures all { λ r. ⌜ (shareable (now (row .entry)) quantity ≡ true → total (gifts (now (rule .entry)) (now (row .entry)) quantity) ≡ r) ⌝ }
 {
-    let given = if can_share(row, quantity) {
-        quantity
-    } else {
-        0
-    };
+    let can = can_share(row, quantity);
     rule.share_out(row, quantity);
-    given
+    if can { quantity } else { 0 }
 }
