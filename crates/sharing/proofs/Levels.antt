@@ -1,18 +1,19 @@
 -- Rounds by levels: after whole rounds every entry has been given shares up to the same level. Assumes nothing.
 use mathlib.Core.Path.{_≡_, refl, sym, ap, subst, _∙_}
 use mathlib.Core.Bool.{Bool, true, false, cond, not, _&&_, _||_}
-use mathlib.Core.Logic.{_⊎_, inl, inr, ⊎-elim}
+use mathlib.Core.Logic.{_⊎_, ⊎-elim}
 use mathlib.Core.List.{List, [], _∷_}
 use Prim.Native.Nat.{ℕ, zero, suc, min, _+_, _-_, _*_, _/_, _%_, _≤_, _<_}
 use native.Mathlib.Nat.{mul-assoc, mul-left-comm, suc-mul, zero-mul, mul-le-mul-left, div-zero, div-mul-le-self, lt-div-mul-add, lt-of-mul-lt-mul-right, le-mul-of-pos-right}
 use native.Mathlib.Omega.{arith}
-use lib.Dec.{leb, ltb, eqb}
+use lib.Dec.{ltb, eqb}
 use lib.ListN.{length}
 use Rattle.std.specs.shelf.Lists.{All}
 use Rattle.std.proofs.shelf.Tests.{cases-lt, cases-eq, cases-bool, false≢true, eqb-true, eq-eqb, or-cases, or-left, or-right}
 use Rattle.std.proofs.shelf.Ways.{tells}
 use Rattle.sharing.specs.Shares.{lot, mostShares, mostEntries, total, zeros}
-use Rattle.sharing.specs.Turns.{pointwise, round, rounds, inRounds, above, leastAbove, lastRound}
+use Rattle.sharing.specs.Levels.{above, leastAbove, lastRound}
+use Rattle.sharing.specs.Turns.{pointwise, round, rounds}
 use Rattle.sharing.specs.Keeps.{Lots, Whole, wholes, zeros-size, zeros-total, round-most, round-size, rounds-size, point-size}
 
 -- what whole rounds up to a level have given, and what they leave open

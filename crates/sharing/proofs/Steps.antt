@@ -1,10 +1,10 @@
 -- The steps of the loops. Assumes nothing.
-use mathlib.Core.Path.{_≡_, refl, sym, ap, _∙_}
+use mathlib.Core.Path.{_≡_, sym, ap, _∙_}
 use mathlib.Core.Bool.{Bool, true, false, cond, _&&_}
 use mathlib.Core.List.{List, [], _∷_, _++_, append-assoc, append-nil}
-use Prim.Native.Nat.{ℕ, suc, zero, min, _+_, _-_, _*_, _%_, _<_, _≤_}
+use Prim.Native.Nat.{ℕ, min, _+_, _-_, _*_, _<_, _≤_}
 use native.Mathlib.Omega.{arith}
-use lib.Dec.{leb, ltb, eqb}
+use lib.Dec.{ltb}
 use lib.ListN.{length, getD, take, drop, set}
 use Rattle.std.specs.shelf.Lists.{All}
 use Rattle.std.proofs.shelf.Lists.{take-more-set, drop-set-lt, at-drop-more, take-all, drop-all}
@@ -12,7 +12,8 @@ use Rattle.std.proofs.shelf.Tests.{lt-ltb, le-ltb}
 use Rattle.std.proofs.shelf.Ways.{tells}
 use Rattle.sharing.specs.Shares.{lot, mostShares, mostEntries, total, zeros, wholeLots, allLawful, lawfulRow}
 use Rattle.sharing.specs.Keeps.{Lots}
-use Rattle.sharing.specs.Turns.{inTurn, above, leastAbove, lastRound}
+use Rattle.sharing.specs.Levels.{above, leastAbove, lastRound}
+use Rattle.sharing.specs.Turns.{inRowOrder}
 
 -- a loop that writes over each element: G says what becomes of the rest, and H of the rest behind it
 module _ {X : Type 0} (xs : List X) (i : ℕ) (ys : List X) where
@@ -27,10 +28,10 @@ module _ (xs : List ℕ) (i : ℕ) (h : i < length xs) where
   pub zeros-more : zeros (drop i xs) ≡ 0 ∷ zeros (drop (i + 1) xs)
   zeros-more = at-drop-more zeros xs i 0 h
 
-  pub turn-more : (q v : ℕ) → v ≡ min (getD xs i 0) q → inTurn (drop i xs) q ≡ v ∷ inTurn (drop (i + 1) xs) (q - v)
-  turn-more q v e =
-      let step : inTurn (drop i xs) q ≡ min (getD xs i 0) q ∷ inTurn (drop (i + 1) xs) (q - min (getD xs i 0) q) = at-drop-more (λ l. inTurn l q) xs i 0 h in
-      step ∙ ap (λ k. k ∷ inTurn (drop (i + 1) xs) (q - k)) (sym e)
+  pub order-more : (q v : ℕ) → v ≡ min (getD xs i 0) q → inRowOrder (drop i xs) q ≡ v ∷ inRowOrder (drop (i + 1) xs) (q - v)
+  order-more q v e =
+      let step : inRowOrder (drop i xs) q ≡ min (getD xs i 0) q ∷ inRowOrder (drop (i + 1) xs) (q - min (getD xs i 0) q) = at-drop-more (λ l. inRowOrder l q) xs i 0 h in
+      step ∙ ap (λ k. k ∷ inRowOrder (drop (i + 1) xs) (q - k)) (sym e)
 
   pub total-more : total (drop i xs) ≡ getD xs i 0 + total (drop (i + 1) xs)
   total-more = at-drop-more total xs i 0 h

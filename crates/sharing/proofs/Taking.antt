@@ -1,9 +1,9 @@
 -- Rounds take turns, and there is no other way to take turns. Assumes nothing.
 use mathlib.Core.Path.{_≡_, refl, sym, ap, subst, _∙_}
-use mathlib.Core.Bool.{Bool, true, false, cond}
+use mathlib.Core.Bool.{true}
 use mathlib.Core.Logic.{_⊎_, inl, inr, ⊎-elim}
 use mathlib.Core.List.{List, [], _∷_}
-use Prim.Native.Nat.{ℕ, zero, suc, min, _+_, _-_, _*_, _/_, _%_, _≤_, _<_}
+use Prim.Native.Nat.{ℕ, zero, suc, min, _+_, _-_, _/_, _%_, _≤_, _<_}
 use native.Mathlib.Omega.{arith}
 use lib.ListN.{length, getD}
 use Rattle.std.specs.shelf.Lists.{All, Each}
@@ -73,12 +73,12 @@ rounds-turns (suc k) row q =
     (cases-lt (total (round row q)) q)
 
 -- nothing else does --------------------------------------------------------------------------------------------------
-at-all : (gs : List ℕ) → All (λ gift. gift % lot ≡ 0) gs → (i : ℕ) → getD gs i 0 % lot ≡ 0
+pub at-all : (gs : List ℕ) → All (λ gift. gift % lot ≡ 0) gs → (i : ℕ) → getD gs i 0 % lot ≡ 0
 at-all [] h i = refl
 at-all (g ∷ gs) h zero = h .0
 at-all (g ∷ gs) h (suc i) = at-all gs (h .1) i
 
-at-each : (gs row : List ℕ) → Each (λ gift entry. gift ≤ entry) gs row → (i : ℕ) → getD gs i 0 ≤ getD row i 0
+pub at-each : (gs row : List ℕ) → Each (λ gift entry. gift ≤ entry) gs row → (i : ℕ) → getD gs i 0 ≤ getD row i 0
 at-each [] [] h i = omega arith
 at-each [] (a ∷ row) h i = absurd h
 at-each (g ∷ gs) [] h i = absurd h

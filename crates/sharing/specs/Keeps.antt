@@ -7,9 +7,9 @@ use native.Mathlib.Omega.{arith}
 use lib.Dec.{leb, eqb}
 use lib.ListN.{length}
 use Rattle.std.specs.shelf.Lists.{All, Each}
-use Rattle.std.proofs.shelf.Tests.{false≢true, and-parts, leb-true, eqb-true, cond-true, cond-false, cases-bool}
+use Rattle.std.proofs.shelf.Tests.{and-parts, leb-true, eqb-true, cond-true, cond-false}
 use Rattle.sharing.specs.Shares.{lot, mostShares, mostEntries, total, zeros, wholeLots, allLawful, lawfulRow, shareable, guarded, LawfulRule}
-use Rattle.sharing.specs.Turns.{inTurn, byTime, pointwise, round, rounds, inRounds, byRotation}
+use Rattle.sharing.specs.Turns.{inRowOrder, byTime, pointwise, round, rounds, inRounds, byRotation}
 
 -- a row and a quantity that can be shared out, taken apart ------------------------------------------------------------
 pub record Lots (most n : ℕ) : Type 0 where
@@ -110,20 +110,20 @@ module _ (share : List ℕ → ℕ → List ℕ) (k : Keeps share) where
   }
 
 -- time priority -------------------------------------------------------------------------------------------------------
-turn-size : (row : List ℕ) (q : ℕ) → length (inTurn row q) ≡ length row
-turn-size [] q = refl
-turn-size (a ∷ rest) q = ap suc (turn-size rest (q - min a q))
+order-size : (row : List ℕ) (q : ℕ) → length (inRowOrder row q) ≡ length row
+order-size [] q = refl
+order-size (a ∷ rest) q = ap suc (order-size rest (q - min a q))
 
-turn-parts : (row : List ℕ) (q : ℕ) → All Whole row → Whole q → Each Part (inTurn row q) row
-turn-parts [] q h e = tt
-turn-parts (a ∷ rest) q h e = let w : a % lot ≡ 0 = h .0 in ((omega arith, omega arith), turn-parts rest (q - min a q) (h .1) (omega arith))
+order-parts : (row : List ℕ) (q : ℕ) → All Whole row → Whole q → Each Part (inRowOrder row q) row
+order-parts [] q h e = tt
+order-parts (a ∷ rest) q h e = let w : a % lot ≡ 0 = h .0 in ((omega arith, omega arith), order-parts rest (q - min a q) (h .1) (omega arith))
 
-turn-whole : (row : List ℕ) (q : ℕ) → q ≤ total row → total (inTurn row q) ≡ q
-turn-whole [] q h = omega arith
-turn-whole (a ∷ rest) q h = let i = turn-whole rest (q - min a q) (omega arith) in omega arith
+order-whole : (row : List ℕ) (q : ℕ) → q ≤ total row → total (inRowOrder row q) ≡ q
+order-whole [] q h = omega arith
+order-whole (a ∷ rest) q h = let i = order-whole rest (q - min a q) (omega arith) in omega arith
 
 pub time-lawful : LawfulRule byTime
-time-lawful = guarded-lawful inTurn (record { size = turn-size; parts = turn-parts; whole = λ row q h e. turn-whole row q })
+time-lawful = guarded-lawful inRowOrder (record { size = order-size; parts = order-parts; whole = λ row q h e. order-whole row q })
 
 -- rotation ------------------------------------------------------------------------------------------------------------
 pub round-size : (row : List ℕ) (q : ℕ) → length (round row q) ≡ length row

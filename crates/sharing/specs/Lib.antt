@@ -1,3 +1,4 @@
 pub mod Shares
 pub mod Turns
+pub mod Levels
 pub mod Keeps

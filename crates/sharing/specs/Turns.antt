@@ -1,21 +1,19 @@
 -- Time priority and rotation. Assumes nothing.
 use mathlib.Core.Path.{_≡_}
-use mathlib.Core.Bool.{Bool, true, false, cond}
 use mathlib.Core.List.{List, [], _∷_}
 use Prim.Native.Nat.{ℕ, zero, suc, min, _+_, _-_, _/_, _%_, _≤_, _<_}
-use lib.Dec.{ltb}
 use lib.ListN.{length, getD}
 use Rattle.std.specs.shelf.Lists.{All, Each}
-use Rattle.sharing.specs.Shares.{lot, mostShares, total, zeros, guarded}
+use Rattle.sharing.specs.Shares.{lot, total, zeros, guarded}
 
 -- each entry in row order gets as much as is left
-abbrev pub inTurn : List ℕ → ℕ → List ℕ
-inTurn [] q = []
-inTurn (a ∷ rest) q = min a q ∷ inTurn rest (q - min a q)
+abbrev pub inRowOrder : List ℕ → ℕ → List ℕ
+inRowOrder [] q = []
+inRowOrder (a ∷ rest) q = min a q ∷ inRowOrder rest (q - min a q)
 
 -- time priority
 abbrev pub byTime : List ℕ → ℕ → List ℕ
-byTime = guarded inTurn
+byTime = guarded inRowOrder
 
 abbrev pub pointwise : (ℕ → ℕ → ℕ) → List ℕ → List ℕ → List ℕ
 pointwise f [] ys = []
@@ -57,18 +55,3 @@ pub record InTurns (row : List ℕ) (q : ℕ) (given : List ℕ) : Type 0 where
 -- there is no other way to give it in turns
 abbrev pub OnlyTurns : List ℕ → ℕ → List ℕ → Type 0
 OnlyTurns row q given = (other : List ℕ) → InTurns row q other → other ≡ given
-
--- how many entries are above a level
-abbrev pub above : ℕ → List ℕ → ℕ
-above l [] = 0
-above l (a ∷ rest) = cond (ltb l a) (1 + above l rest) (above l rest)
-
--- the least entry above a level, and the most shares of an entry where there is none
-abbrev pub leastAbove : ℕ → List ℕ → ℕ
-leastAbove l [] = mostShares
-leastAbove l (a ∷ rest) = cond (ltb l a) (min a (leastAbove l rest)) (leastAbove l rest)
-
--- one more round, after each entry has been given shares up to the level l
-abbrev pub lastRound : ℕ → List ℕ → ℕ → List ℕ
-lastRound l [] q = []
-lastRound l (a ∷ rest) q = (min a l + min lot (min (a - l) q)) ∷ lastRound l rest (q - min lot (min (a - l) q))

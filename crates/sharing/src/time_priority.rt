@@ -1,5 +1,5 @@
 ghost use mathlib.Core.Path.{_≡_};
-ghost use Rattle.sharing.specs.Turns.{inTurn, byTime};
+ghost use Rattle.sharing.specs.Turns.{inRowOrder, byTime};
 ghost use Rattle.sharing.specs.Keeps.{time-lawful};
 use crate::rule::ShareOut;
 use crate::rule::can_share;
@@ -9,8 +9,8 @@ use crate::rule::give_nothing;
 #[derive(Clone, Copy, PartialEq, Eq, Debug)]
 pub struct TimePriority;
 
-fn fill_in_turn(row: &mut [u32], quantity: u32)
-    ensures { λ _. ⌜ now (row .exit) ≡ inTurn (now (row .entry)) quantity ⌝ }
+fn fill_in_row_order(row: &mut [u32], quantity: u32)
+    ensures { λ _. ⌜ now (row .exit) ≡ inRowOrder (now (row .entry)) quantity ⌝ }
 {
     let mut left = quantity;
     for entry in row.iter_mut() {
@@ -27,7 +27,7 @@ pub impl ShareOut for TimePriority as TimePriorityShareOut {
 
     fn share_out(&self, row: &mut [u32], quantity: u32) {
         if can_share(row, quantity) {
-            fill_in_turn(row, quantity);
+            fill_in_row_order(row, quantity);
         } else {
             give_nothing(row);
         }

@@ -1,10 +1,9 @@
-use mathlib.Core.Path.{_≡_, sym, _∙_}
-use Prim.Native.Nat.{_<_}
+use mathlib.Core.Path.{_≡_}
 use native.Mathlib.Omega.{arith}
-use lib.ListN.{length, drop}
+use lib.ListN.{drop}
 use Rattle.std.proofs.shelf.Lists.{at-drop-all}
 use Rattle.sharing.specs.Shares.{mostShares}
-use Rattle.sharing.specs.Turns.{above, leastAbove}
+use Rattle.sharing.specs.Levels.{above, leastAbove}
 use Rattle.sharing.proofs.Steps.{count-yes, count-no, least-yes, least-no}
 use Rattle.sharing.proofs.Levels.{least-most}
 use Rattle.sharing.proofs.rotation.entries_above.Needs as need

@@ -2,7 +2,7 @@ use mathlib.Core.Path.{_≡_}
 use Prim.Native.Nat.{min, _+_, _≤_}
 use lib.ListN.{drop}
 use Rattle.sharing.specs.Shares.{mostShares}
-use Rattle.sharing.specs.Turns.{above, leastAbove}
+use Rattle.sharing.specs.Levels.{above, leastAbove}
 use Rattle.sharing.proofs.rotation.entries_above.Given as given
 
 abbrev pub Inv-loop-entry : given.InvT-loop-entry

@@ -3,7 +3,7 @@ use Prim.Native.Nat.{min, _+_, _-_, _<_}
 use native.Mathlib.Omega.{arith}
 use lib.ListN.{length, getD}
 use Rattle.sharing.specs.Shares.{lot}
-use Rattle.sharing.specs.Turns.{lastRound}
+use Rattle.sharing.specs.Levels.{lastRound}
 use Rattle.sharing.proofs.Steps.{over-more, over-all, last-more}
 use Rattle.sharing.proofs.rotation.last_round.Needs as need
 

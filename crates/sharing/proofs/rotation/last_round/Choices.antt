@@ -1,7 +1,7 @@
 use mathlib.Core.Path.{_≡_}
 use mathlib.Core.List.{_++_}
 use lib.ListN.{take, drop}
-use Rattle.sharing.specs.Turns.{lastRound}
+use Rattle.sharing.specs.Levels.{lastRound}
 use Rattle.sharing.proofs.rotation.last_round.Given as given
 
 abbrev pub Inv-loop-entry : given.InvT-loop-entry

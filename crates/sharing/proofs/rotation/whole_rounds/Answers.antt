@@ -1,9 +1,8 @@
-use mathlib.Core.Path.{_≡_, refl, sym, ap, subst, _∙_}
-use Prim.Native.Nat.{_+_, _-_, _*_, _/_, _%_, _<_, _≤_}
+use mathlib.Core.Path.{refl, sym, ap, subst, _∙_}
+use Prim.Native.Nat.{_-_, _*_, _/_, _%_, _<_, _≤_}
 use native.Mathlib.Nat.{le-mul-of-pos-right}
 use native.Mathlib.Omega.{arith}
 use Rattle.sharing.specs.Shares.{lot}
-use Rattle.sharing.specs.Turns.{above, leastAbove}
 use Rattle.sharing.specs.Keeps.{shareable-parts}
 use Rattle.sharing.proofs.Levels.{after, kinds, after-none, cost-asks, least-is, kinds-less, next-level, last-level}
 use Rattle.sharing.proofs.rotation.whole_rounds.Needs as need

@@ -1,7 +1,8 @@
 use mathlib.Core.Path.{_≡_}
 use Prim.Native.Nat.{ℕ, _+_, _*_, _≤_}
 use Rattle.sharing.specs.Shares.{lot, mostEntries}
-use Rattle.sharing.specs.Turns.{inRounds, above, leastAbove}
+use Rattle.sharing.specs.Levels.{above, leastAbove}
+use Rattle.sharing.specs.Turns.{inRounds}
 use Rattle.sharing.specs.Keeps.{Whole}
 use Rattle.sharing.proofs.Levels.{after, kinds}
 use Rattle.sharing.proofs.rotation.whole_rounds.Given as given
