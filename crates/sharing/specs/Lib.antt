@@ -1,0 +1,4 @@
+pub mod Shares
+pub mod Turns
+pub mod Levels
+pub mod Keeps

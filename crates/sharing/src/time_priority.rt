@@ -1,0 +1,35 @@
+ghost use mathlib.Core.Path.{_≡_};
+ghost use Rattle.sharing.specs.Turns.{inRowOrder, byTime};
+ghost use Rattle.sharing.specs.Keeps.{time-lawful};
+use crate::rule::ShareOut;
+use crate::rule::can_share;
+use crate::rule::give_nothing;
+
+// Fills the entries in row order.
+#[derive(Clone, Copy, PartialEq, Eq, Debug)]
+pub struct TimePriority;
+
+fn fill_in_row_order(row: &mut [u32], quantity: u32)
+    ensures { λ _. ⌜ now (row .exit) ≡ inRowOrder (now (row .entry)) quantity ⌝ }
+{
+    let mut left = quantity;
+    for entry in row.iter_mut() {
+        let gift = (*entry).min(left);
+        *entry = gift;
+        left -= gift;
+    }
+}
+
+pub impl ShareOut for TimePriority as TimePriorityShareOut {
+    ghost gifts = { λ _. byTime };
+
+    ghost lawful = { λ _. time-lawful };
+
+    fn share_out(&self, row: &mut [u32], quantity: u32) {
+        if can_share(row, quantity) {
+            fill_in_row_order(row, quantity);
+        } else {
+            give_nothing(row);
+        }
+    }
+}
