@@ -7,7 +7,7 @@ use lib.Dec.{ltb, eqb}
 use Rattle.std.specs.shelf.Lists.{All, leading}
 use Rattle.std.specs.Slices.{Shuffled}
 
--- one record at most precedes the other, and what precedes a record precedes those behind it
+-- of two records at most one precedes the other, and what precedes a record precedes all that it precedes
 pub record Strict {X : Type 0} (before : X → X → Bool) : Type 0 where
   pub asymmetric : (x y : X) → before x y ≡ true → before y x ≡ false
   pub transitive : (x y z : X) → before x y ≡ true → before y z ≡ true → before x z ≡ true
