@@ -199,7 +199,7 @@ least-over l (a ∷ rest) h = let i = least-over l rest h in grind (arith, tells
 under-most : (l : ℕ) (row : List ℕ) → All (Lots mostShares) row → 0 < above l row → l < mostShares
 under-most l [] h some = absurd (omega arith)
 under-most l (a ∷ rest) h some =
-    ⊎-elim (λ (s : l < a). omega (arith, h .0 .most′)) (λ (s : a ≤ l). under-most l rest (h .1) (grind (arith, tells))) (cases-lt l a)
+    ⊎-elim (λ (s : l < a). omega (arith, h .0 .most)) (λ (s : a ≤ l). under-most l rest (h .1) (grind (arith, tells))) (cases-lt l a)
 
 least-has : (l : ℕ) (row : List ℕ) → All (Lots mostShares) row → 0 < above l row → has (leastAbove l row) row ≡ true
 least-has l [] h some = absurd (omega arith)
@@ -208,7 +208,7 @@ least-has l (a ∷ rest) h some =
     λ e u. or-right (eqb (leastAbove l (a ∷ rest)) a) (has (leastAbove l (a ∷ rest)) rest) (ap (λ x. has x rest) e ∙ least-has l rest (h .1) u) in
     ⊎-elim
     (λ (s : l < a). ⊎-elim
-    (λ (t : leastAbove l rest < a). later (grind (arith, tells)) (⊎-elim (λ (u : 0 < above l rest). u) (λ (u : above l rest ≤ 0). absurd (omega (arith, least-none l rest (omega arith), h .0 .most′))) (cases-lt 0 (above l rest))))
+    (λ (t : leastAbove l rest < a). later (grind (arith, tells)) (⊎-elim (λ (u : 0 < above l rest). u) (λ (u : above l rest ≤ 0). absurd (omega (arith, least-none l rest (omega arith), h .0 .most))) (cases-lt 0 (above l rest))))
     (λ (t : a ≤ leastAbove l rest). or-left (eqb (leastAbove l (a ∷ rest)) a) (has (leastAbove l (a ∷ rest)) rest) (eq-eqb (leastAbove l (a ∷ rest)) a (grind (arith, tells))))
     (cases-lt (leastAbove l rest) a))
     (λ (s : a ≤ l). later (grind (arith, tells)) (grind (arith, tells)))
@@ -229,7 +229,7 @@ least-is l row h some =
     record { over = least-over l row (under-most l row h some); lawful = has-all (Lots mostShares) (leastAbove l row) row h i; held = i }
 
 pub cost-asks : (l n least : ℕ) (row : List ℕ) → All (Lots mostShares) row → n ≡ above l row → least ≡ leastAbove l row → n ≤ mostEntries → 0 < n → (l ≤ least) × ((least ≤ mostShares) × (n ≤ mostEntries))
-cost-asks l n least row h count next few some = let i = least-is l row h (omega arith) in (omega (arith, i .over), (omega (arith, i .lawful .most′), few))
+cost-asks l n least row h count next few some = let i = least-is l row h (omega arith) in (omega (arith, i .over), (omega (arith, i .lawful .most), few))
 
 -- how many different entries are above a level
 abbrev pub kinds : ℕ → List ℕ → ℕ

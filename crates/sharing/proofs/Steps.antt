@@ -74,4 +74,4 @@ lawful-told row some few all = grind (arith, tells)
 
 pub total-most : (row : List ℕ) → All (Lots mostShares) row → total row ≤ mostShares * length row
 total-most [] h = omega arith
-total-most (a ∷ rest) h = omega (arith, h .0 .most′, total-most rest (h .1))
+total-most (a ∷ rest) h = omega (arith, h .0 .most, total-most rest (h .1))

@@ -7,21 +7,21 @@ use native.Mathlib.Omega.{arith}
 use lib.Dec.{leb, eqb}
 use lib.ListN.{length}
 use Rattle.std.specs.shelf.Lists.{All, Each}
-use Rattle.std.proofs.shelf.Tests.{and-parts, leb-true, eqb-true, cond-true, cond-false}
+use Rattle.std.proofs.shelf.Tests.{and-parts, and-from, leb-true, le-leb, eqb-true, eq-eqb, cond-true, cond-false}
 use Rattle.sharing.specs.Shares.{lot, mostShares, mostEntries, total, zeros, wholeLots, allLawful, lawfulRow, shareable, guarded, LawfulRule}
 use Rattle.sharing.specs.Turns.{inRowOrder, byTime, pointwise, round, rounds, inRounds, byRotation}
 
 -- a row and a quantity that can be shared out, taken apart ------------------------------------------------------------
-pub record Lots (most n : ℕ) : Type 0 where
+pub record Lots (bound n : ℕ) : Type 0 where
   pub least : lot ≤ n
-  pub most′ : n ≤ most
+  pub most : n ≤ bound
   pub lots : n % lot ≡ 0
 
-pub lots-parts : (most n : ℕ) → wholeLots most n ≡ true → Lots most n
-lots-parts most n e =
-    let x : ((leb lot n && leb n most) ≡ true) × (eqb (n % lot) 0 ≡ true) = and-parts (leb lot n && leb n most) (eqb (n % lot) 0) e in
-    let y : (leb lot n ≡ true) × (leb n most ≡ true) = and-parts (leb lot n) (leb n most) (x .0) in
-    record { least = leb-true lot n (y .0); most′ = leb-true n most (y .1); lots = eqb-true (n % lot) 0 (x .1) }
+pub lots-parts : (bound n : ℕ) → wholeLots bound n ≡ true → Lots bound n
+lots-parts bound n e =
+    let x : ((leb lot n && leb n bound) ≡ true) × (eqb (n % lot) 0 ≡ true) = and-parts (leb lot n && leb n bound) (eqb (n % lot) 0) e in
+    let y : (leb lot n ≡ true) × (leb n bound ≡ true) = and-parts (leb lot n) (leb n bound) (x .0) in
+    record { least = leb-true lot n (y .0); most = leb-true n bound (y .1); lots = eqb-true (n % lot) 0 (x .1) }
 
 pub lawful-each : (row : List ℕ) → allLawful row ≡ true → All (Lots mostShares) row
 lawful-each [] e = tt
@@ -48,6 +48,22 @@ pub shareable-parts : (row : List ℕ) (q : ℕ) → shareable row q ≡ true �
 shareable-parts row q e =
     let x : (lawfulRow row ≡ true) × (wholeLots (total row) q ≡ true) = and-parts (lawfulRow row) (wholeLots (total row) q) e in
     record { entries = row-parts row (x .0); quantity = lots-parts (total row) q (x .1) }
+
+-- and put together, for a caller that knows its row
+pub lots-from : (bound n : ℕ) → Lots bound n → wholeLots bound n ≡ true
+lots-from bound n h =
+    and-from (leb lot n && leb n bound) (eqb (n % lot) 0) (and-from (leb lot n) (leb n bound) (le-leb lot n (h .least)) (le-leb n bound (h .most))) (eq-eqb (n % lot) 0 (h .lots))
+
+pub lawful-from : (row : List ℕ) → All (Lots mostShares) row → allLawful row ≡ true
+lawful-from [] h = refl
+lawful-from (a ∷ rest) h = and-from (wholeLots mostShares a) (allLawful rest) (lots-from mostShares a (h .0)) (lawful-from rest (h .1))
+
+pub row-from : (row : List ℕ) → LawfulRow row → lawfulRow row ≡ true
+row-from row h =
+    and-from (leb 1 (length row) && leb (length row) mostEntries) (allLawful row) (and-from (leb 1 (length row)) (leb (length row) mostEntries) (le-leb 1 (length row) (h .some)) (le-leb (length row) mostEntries (h .few))) (lawful-from row (h .each))
+
+pub shareable-from : (row : List ℕ) (q : ℕ) → Shareable row q → shareable row q ≡ true
+shareable-from row q h = and-from (lawfulRow row) (wholeLots (total row) q) (row-from row (h .entries)) (lots-from (total row) q (h .quantity))
 
 -- a way to share out that is asked only where it can be ---------------------------------------------------------------
 abbrev pub Whole : ℕ → Type 0
@@ -98,7 +114,7 @@ module _ (share : List ℕ → ℕ → List ℕ) (k : Keeps share) where
   at-whole : (row : List ℕ) (q : ℕ) → shareable row q ≡ true → total (guarded share row q) ≡ q
   at-whole row q e =
       let s = shareable-parts row q e in
-      ap total (cond-true (shareable row q) (share row q) (zeros row) e) ∙ k .whole row q (wholes row (s .entries .each)) (s .quantity .lots) (s .quantity .most′)
+      ap total (cond-true (shareable row q) (share row q) (zeros row) e) ∙ k .whole row q (wholes row (s .entries .each)) (s .quantity .lots) (s .quantity .most)
 
   pub guarded-lawful : LawfulRule (guarded share)
   guarded-lawful = record {

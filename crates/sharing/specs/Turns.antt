@@ -39,19 +39,26 @@ inRounds row q = rounds (q / lot) row q
 abbrev pub byRotation : List ℕ → ℕ → List ℕ
 byRotation = guarded inRounds
 
+-- laws on the gifts for a row, by which the rules can be told apart ----------------------------------------------------
+
+-- Where the entry at i is not filled, no entry behind it has anything.
+abbrev pub KeepsOrder : List ℕ → List ℕ → Type 0
+KeepsOrder row given = (i j : ℕ) → getD given i 0 < getD row i 0 → i < j → getD given j 0 ≡ 0
+
 -- Where the entry at i is not filled, no entry has more than 100 above what it has, and none behind it has more.
 abbrev pub TakesTurns : List ℕ → List ℕ → Type 0
 TakesTurns row given =
     (i j : ℕ) → getD given i 0 < getD row i 0 → (getD given j 0 ≤ getD given i 0 + lot) × (i < j → getD given j 0 ≤ getD given i 0)
 
--- the whole quantity given in lots, to no entry more than it has open, and in turns
-pub record InTurns (row : List ℕ) (q : ℕ) (given : List ℕ) : Type 0 where
+-- the whole quantity given in lots, and to no entry more than it has open
+pub record Gives (row : List ℕ) (q : ℕ) (given : List ℕ) : Type 0 where
   pub size : length given ≡ length row
   pub whole : total given ≡ q
   pub within : Each (λ gift entry. gift ≤ entry) given row
   pub lots : All (λ gift. gift % lot ≡ 0) given
-  pub turns : TakesTurns row given
 
--- there is no other way to give it in turns
-abbrev pub OnlyTurns : List ℕ → ℕ → List ℕ → Type 0
-OnlyTurns row q given = (other : List ℕ) → InTurns row q other → other ≡ given
+-- gifts that keep such a law, and the only ones that do
+pub record Alone (law : List ℕ → List ℕ → Type 0) (row : List ℕ) (q : ℕ) (given : List ℕ) : Type 0 where
+  pub gives : Gives row q given
+  pub keeps : law row given
+  pub alone : (other : List ℕ) → Gives row q other → law row other → other ≡ given

@@ -4,7 +4,7 @@ ghost use Prim.Native.Nat.{_-_, _*_, _/_, _≤_};
 ghost use lib.ListN.{length};
 ghost use Rattle.sharing.specs.Shares.{shareable, lot, mostShares, mostEntries};
 ghost use Rattle.sharing.specs.Levels.{above, leastAbove, lastRound};
-ghost use Rattle.sharing.specs.Turns.{inRounds, byRotation, InTurns, OnlyTurns};
+ghost use Rattle.sharing.specs.Turns.{inRounds, byRotation, TakesTurns, Alone};
 ghost use Rattle.sharing.specs.Keeps.{rotation-lawful};
 use crate::rule::LOT;
 use crate::rule::MOST_SHARES;
@@ -105,8 +105,7 @@ fn last_round(row: &mut [u32], level: u32, quantity: u32)
 fn rotate(row: &mut [u32], quantity: u32)
     requires { ⌜ shareable (now row) quantity ≡ true ⌝ }
     ensures gifts { λ _. ⌜ now (row .exit) ≡ inRounds (now (row .entry)) quantity ⌝ }
-    ensures turns { λ _. ⌜ InTurns (now (row .entry)) quantity (now (row .exit)) ⌝ }
-    ensures alone { λ _. ⌜ OnlyTurns (now (row .entry)) quantity (now (row .exit)) ⌝ }
+    ensures alone { λ _. ⌜ Alone TakesTurns (now (row .entry)) quantity (now (row .exit)) ⌝ }
 {
     let paid = whole_rounds(row, quantity);
     last_round(row, paid.level, paid.left);
@@ -120,8 +119,7 @@ pub impl ShareOut for Rotation as RotationShareOut {
     // The gifts take turns, and no other gifts do.
     fn share_out(&self, row: &mut [u32], quantity: u32)
         ensures gifts { λ _. ⌜ now (row .exit) ≡ byRotation (now (row .entry)) quantity ⌝ }
-        ensures turns { λ _. ⌜ (shareable (now (row .entry)) quantity ≡ true → InTurns (now (row .entry)) quantity (now (row .exit))) ⌝ }
-        ensures alone { λ _. ⌜ (shareable (now (row .entry)) quantity ≡ true → OnlyTurns (now (row .entry)) quantity (now (row .exit))) ⌝ }
+        ensures alone { λ _. ⌜ (shareable (now (row .entry)) quantity ≡ true → Alone TakesTurns (now (row .entry)) quantity (now (row .exit))) ⌝ }
     {
         if can_share(row, quantity) {
             rotate(row, quantity);
