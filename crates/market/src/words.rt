@@ -1,14 +1,14 @@
 // The words that every layer shares.
 
 // A buy rests among the bids, a sell among the offers.
-#[derive(Clone, Copy, PartialEq, Eq, Debug)]
+#[derive(Clone, Copy, PartialEq, Eq)]
 pub enum Side {
     Buy,
     Sell,
 }
 
 // What an order asks for.
-#[derive(Clone, Copy, PartialEq, Eq, Debug)]
+#[derive(Clone, Copy)]
 pub enum Kind {
     Limit,
     Market,
@@ -17,7 +17,7 @@ pub enum Kind {
 }
 
 // Where the open shares of an order are.
-#[derive(Clone, Copy, PartialEq, Eq, Debug)]
+#[derive(Clone, Copy, PartialEq, Eq)]
 pub enum Place {
     Nowhere,
     Book,
@@ -26,14 +26,14 @@ pub enum Place {
 }
 
 // Which of the two values of a cell of the range table is in use.
-#[derive(Clone, Copy, PartialEq, Eq, Debug)]
+#[derive(Clone, Copy)]
 pub enum Column {
     Lower,
     Higher,
 }
 
 // An order of the roll.
-#[derive(Clone, Copy, PartialEq, Eq, Debug)]
+#[derive(Clone, Copy)]
 pub struct Order {
     pub number: u32,
     pub member: u32,
@@ -49,7 +49,7 @@ pub struct Order {
 }
 
 // A stop order as a stop file holds it.
-#[derive(Clone, Copy, PartialEq, Eq, Debug)]
+#[derive(Clone, Copy, PartialEq, Eq)]
 pub struct Stop {
     pub number: u32,
     pub side: Side,
@@ -58,14 +58,14 @@ pub struct Stop {
 }
 
 // The prices at which orders execute automatically, both ends included.
-#[derive(Clone, Copy, PartialEq, Eq, Debug)]
+#[derive(Clone, Copy)]
 pub struct Range {
     pub low: u32,
     pub high: u32,
 }
 
 // A line of the tape.
-#[derive(Clone, Copy, PartialEq, Eq, Debug)]
+#[derive(Clone, Copy)]
 pub enum TapeLine {
     // an execution of the order run, with the range in force, 0 and 0 without one
     Print {

@@ -6,3 +6,4 @@ pub mod Reading
 pub mod Written
 pub mod RoundTrips
 pub mod Inspection
+pub mod Tape

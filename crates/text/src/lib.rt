@@ -8,4 +8,5 @@ mod number;
 pub mod read;
 pub mod record;
 pub mod refusal;
+pub mod tape;
 pub mod write;

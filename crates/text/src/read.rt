@@ -17,13 +17,11 @@ use crate::record::PricedOrder;
 use crate::record::Record;
 use crate::record::RecordKind;
 use crate::refusal::Refusal;
-use crate::refusal::RefusalDebug;
-use crate::refusal::RefusalPartialEq;
 use market::words::Column;
 use market::words::Side;
 
 // Why a line was refused, its field's place, and where the next line begins.
-#[derive(Clone, Copy, PartialEq, Eq, Debug)]
+#[derive(Clone, Copy)]
 pub struct Fault {
     pub cause: Refusal,
     pub field: u32,

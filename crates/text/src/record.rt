@@ -1,13 +1,9 @@
 // The records that day lines hold.
 use market::words::Column;
-use market::words::ColumnDebug;
-use market::words::ColumnPartialEq;
 use market::words::Side;
-use market::words::SideDebug;
-use market::words::SidePartialEq;
 
 // An order with a limit or a stop price.
-#[derive(Clone, Copy, PartialEq, Eq, Debug)]
+#[derive(Clone, Copy)]
 pub struct PricedOrder {
     pub side: Side,
     pub member: u32,
@@ -15,7 +11,7 @@ pub struct PricedOrder {
     pub shares: u32,
 }
 
-#[derive(Clone, Copy, PartialEq, Eq, Debug)]
+#[derive(Clone, Copy)]
 pub enum Record {
     Set {
         class: u32,
@@ -44,8 +40,8 @@ pub enum Record {
 }
 
 // Which record a line holds, as its letter says.
-#[derive(Clone, Copy, PartialEq, Eq, Debug)]
-pub enum RecordKind {
+#[derive(Clone, Copy)]
+pub(crate) enum RecordKind {
     Set,
     Limit,
     ImmediateOrCancel,
