@@ -28,28 +28,17 @@ fn elect_line(order: u32) -> Line
     Line::new(b'E').number(order).end()
 }
 
-// A tape line with its end.
-fn tape_line(line: TapeLine) -> Line
-    ensures { λ r. ⌜ textOf r ≡ tapeBytes line ++ 10 ∷ [] ⌝ }
-{
-    match line {
-        TapeLine::Print {
-            order,
-            price,
-            shares,
-            low,
-            high,
-        } => print_line(order, price, shares, low, high),
-        TapeLine::Cancel { order, shares } => pair_line(b'X', order, shares),
-        TapeLine::Elect { order } => elect_line(order),
-        TapeLine::Floor { price, shares } => pair_line(b'F', price, shares),
-    }
-}
-
 // Puts the line and its end at the buffer's start, and answers how many bytes that are.
 pub fn write_tape_line(line: TapeLine, buffer: &mut [u8]) -> Result<usize, Refusal>
     ensures answer { λ r. ⌜ r ≡ putLength (Ok (tapeBytes line ++ 10 ∷ [])) (now (buffer .entry)) ⌝ }
     ensures buffer { λ _. ⌜ now (buffer .exit) ≡ putBuffer (Ok (tapeBytes line ++ 10 ∷ [])) (now (buffer .entry)) ⌝ }
 {
-    tape_line(line).copy_to(buffer)
+    match line {
+        TapeLine::Print { order, price, shares, low, high } => {
+            print_line(order, price, shares, low, high).copy_to(buffer)
+        }
+        TapeLine::Cancel { order, shares } => pair_line(b'X', order, shares).copy_to(buffer),
+        TapeLine::Elect { order } => elect_line(order).copy_to(buffer),
+        TapeLine::Floor { price, shares } => pair_line(b'F', price, shares).copy_to(buffer),
+    }
 }
