@@ -1,0 +1,5 @@
+pub mod Firsts
+pub mod Ascending
+pub mod Above
+pub mod Slotted
+pub mod Turns

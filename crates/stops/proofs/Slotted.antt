@@ -1,0 +1,68 @@
+-- Taking a stop out of the first slots, and putting one behind them.
+use mathlib.Core.Path.{_≡_, refl, sym, ap, subst, _∙_}
+use mathlib.Core.Bool.{Bool, true, false, cond, not}
+use mathlib.Core.List.{List, [], _∷_, _++_}
+use mathlib.Core.Logic.{⊎-elim}
+use Prim.Native.Nat.{ℕ, suc, _+_, _-_, _<_, _≤_, min}
+use native.Mathlib.Omega.{arith}
+use lib.Dec.{eqb}
+use lib.ListN.{length, take, drop, set, length-take, length-set}
+use Rattle.std.specs.shelf.Lists.{leading, removed}
+use Rattle.std.specs.shelf.Maps.{nth}
+use Rattle.std.proofs.shelf.Maps.{nth-past}
+use Rattle.std.proofs.shelf.Lists.{take-at, take-more-set}
+use Rattle.std.proofs.shelf.Edits.{length-removed}
+use Rattle.std.proofs.shelf.Tests.{cases-lt}
+use Rattle.std.specs.declared.option.Option.{Option}
+use Rattle.std.specs.declared.option.Option.the-variants.{Some, None}
+use Rattle.std.specs.declared.result.Result.{Result}
+use Rattle.std.specs.declared.result.Result.the-variants.{Ok, Err}
+use Rattle.market.specs.declared.words.Stop.{Stop}
+use Rattle.stops.specs.declared.stop_file.NotAdded.{NotAdded}
+use Rattle.stops.specs.declared.stop_file.NotAdded.the-variants.{NotAbove, Full}
+use Rattle.stops.specs.Stops.{firstBy, withoutBy, aboveAll, adding, afterAdding}
+use Rattle.stops.specs.Slots.{filled}
+use Rattle.stops.proofs.Firsts.{past, first-nth, without-removed, untaken}
+
+-- what is there lies within
+pub nth-within : {X : Type 0} (xs : List X) (i : ℕ) (x : X) → Some x ≡ nth xs i → i < length xs
+nth-within xs i x e =
+    ⊎-elim (λ (l : i < length xs). l) (λ (l : length xs ≤ i). let k : nth xs i ≡ None = nth-past xs i l in absurd (let z : _≡_ {A = ℕ} 0 1 = cc in omega arith)) (cases-lt i (length xs))
+
+module _ (t : Stop → Bool) (xs ys : List Stop) (h n i : ℕ) (e : n ≡ min h (length xs)) (at : i ≡ leading (past t) (take n xs)) where
+  held : take n xs ≡ filled h xs
+  held = ap (λ (m : ℕ). take m xs) e
+
+  found : nth (take n xs) i ≡ firstBy t (filled h xs)
+  found = ap (nth (take n xs)) at ∙ first-nth t (take n xs) ∙ ap (firstBy t) held
+
+  pub pulled-some : (s : Stop) → length ys ≡ length xs → Some s ≡ nth (take n xs) i → ys ≡ removed (take n xs) i ++ (s ∷ drop n xs) → (Some s ≡ firstBy t (filled h xs)) × (filled (n - 1) ys ≡ withoutBy t (filled h xs))
+  pulled-some s len was is =
+      let lt : i < length (take n xs) = nth-within (take n xs) i s was in
+      let whole = length-take n xs in
+      let less = length-removed (take n xs) i lt in
+      let all : min (n - 1) (length ys) ≡ n - 1 = omega arith in
+      let front : take (n - 1) ys ≡ removed (take n xs) i = ap (take (n - 1)) is ∙ take-at (removed (take n xs) i) (s ∷ drop n xs) (n - 1) (omega arith) in
+      (was ∙ found, ap (λ (m : ℕ). take m ys) all ∙ front ∙ ap (removed (take n xs)) at ∙ without-removed t (take n xs) ∙ ap (withoutBy t) held)
+
+  pub pulled-none : None ≡ nth (take n xs) i → ys ≡ xs → (None ≡ firstBy t (filled h xs)) × (filled h ys ≡ withoutBy t (filled h xs))
+  pulled-none was is =
+      let none : None ≡ firstBy t (filled h xs) = was ∙ found in
+      (none, ap (filled h) is ∙ sym (untaken t (filled h xs) (sym none) .same))
+
+-- the ways of adding
+pub adding-low : (k : ℕ) (s : Stop) (ss : List Stop) → aboveAll (s .number) ss ≡ false → Err NotAbove ≡ adding k s ss
+adding-low k s ss e = sym (ap (λ (b : Bool). cond b (cond (eqb (length ss) k) (Err Full) (Ok tt)) (Err NotAbove)) e)
+
+pub adding-full : (k : ℕ) (s : Stop) (ss : List Stop) → aboveAll (s .number) ss ≡ true → eqb (length ss) k ≡ true → Err Full ≡ adding k s ss
+adding-full k s ss e f = sym (ap (λ (b : Bool). cond b (cond (eqb (length ss) k) (Err Full) (Ok tt)) (Err NotAbove)) e ∙ ap (λ (b : Bool). cond b (Err Full) (Ok tt)) f)
+
+pub adding-done : (k : ℕ) (s : Stop) (ss : List Stop) → aboveAll (s .number) ss ≡ true → eqb (length ss) k ≡ false → Ok tt ≡ adding k s ss
+adding-done k s ss e f = sym (ap (λ (b : Bool). cond b (cond (eqb (length ss) k) (Err Full) (Ok tt)) (Err NotAbove)) e ∙ ap (λ (b : Bool). cond b (Err Full) (Ok tt)) f)
+
+-- one more slot used
+pub filled-more : (xs : List Stop) (h n : ℕ) (s : Stop) → n ≡ min h (length xs) → n < length xs → filled (n + 1) (set xs n s) ≡ filled h xs ++ s ∷ []
+filled-more xs h n s e lt =
+    let long = length-set xs n s in
+    let all : min (n + 1) (length (set xs n s)) ≡ n + 1 = omega arith in
+    ap (λ (m : ℕ). take m (set xs n s)) all ∙ take-more-set xs n s lt ∙ ap (λ (m : ℕ). take m xs ++ s ∷ []) e

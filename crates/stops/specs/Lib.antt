@@ -1,0 +1,4 @@
+pub mod Stops
+pub mod Laws
+pub mod Seeking
+pub mod Slots
