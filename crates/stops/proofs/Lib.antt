@@ -3,3 +3,6 @@ pub mod Ascending
 pub mod Above
 pub mod Slotted
 pub mod Turns
+pub mod Merged
+pub mod Picks
+pub mod Shifts

@@ -2,3 +2,6 @@ pub mod Stops
 pub mod Laws
 pub mod Seeking
 pub mod Slots
+pub mod Tables
+pub mod Seats
+pub mod Priced

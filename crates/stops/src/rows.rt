@@ -8,11 +8,12 @@ ghost use Rattle.market.specs.declared.words.Stop.{Stop as Stopped};
 ghost use Rattle.std.specs.shelf.Lists.{leading};
 ghost use Rattle.stops.specs.Stops.{elects, aboveAll};
 ghost use Rattle.stops.specs.Seeking.{meets, misses};
+ghost use Rattle.stops.specs.Seats.{elected, LeastRow};
 use market::words::Side;
 use market::words::Stop;
 
 // Whether a price elects a stop: a buy priced at it or lower, a sell priced at it or higher.
-pub fn is_elected(stop: &Stop, price: u32) -> bool
+pub(crate) fn is_elected(stop: &Stop, price: u32) -> bool
     ensures { λ r. ⌜ r ≡ elects price (now (stop .entry)) ⌝ }
 {
     match stop.side {
@@ -23,7 +24,7 @@ pub fn is_elected(stop: &Stop, price: u32) -> bool
 
 // What a scan looks for.
 #[derive(Clone, Copy)]
-pub enum Sought {
+pub(crate) enum Sought {
     // a stop that the price elects
     Elected(u32),
     // a stop that the price does not elect
@@ -35,7 +36,7 @@ pub enum Sought {
 }
 
 impl Sought {
-    pub fn is_met(&self, stop: &Stop) -> bool
+    pub(crate) fn is_met(&self, stop: &Stop) -> bool
         ensures { λ r. ⌜ r ≡ meets (now (self .entry)) (now (stop .entry)) ⌝ }
     {
         match *self {
@@ -48,14 +49,14 @@ impl Sought {
 }
 
 // A record that holds a stop.
-pub trait StopRow {
+pub(crate) trait StopRow {
     ghost carried: { Self → Stopped };
 
     fn stop(&self) -> Stop
         ensures { λ r. ⌜ r ≡ carried (now (self .entry)) ⌝ };
 }
 
-pub impl StopRow for Stop as PlainStopRow {
+pub(crate) impl StopRow for Stop as PlainStopRow {
     ghost carried = { λ s. s };
 
     fn stop(&self) -> Stop {
@@ -64,7 +65,7 @@ pub impl StopRow for Stop as PlainStopRow {
 }
 
 // The index of the first row that is looked for, or the number of rows.
-pub fn first_row<T: StopRow>(rows: &[T], sought: Sought) -> usize
+pub(crate) fn first_row<T: StopRow>(rows: &[T], sought: Sought) -> usize
     ensures place { λ r. ⌜ r ≡ leading (λ u. misses sought (carried u)) (now (rows .entry)) ⌝ }
     ensures within { λ r. ⌜ r ≤ length (now (rows .entry)) ⌝ }
 {
@@ -77,8 +78,42 @@ pub fn first_row<T: StopRow>(rows: &[T], sought: Sought) -> usize
 }
 
 // Whether a number is above those of all rows.
-pub fn is_above_all<T: StopRow>(rows: &[T], number: u32) -> bool
+pub(crate) fn is_above_all<T: StopRow>(rows: &[T], number: u32) -> bool
     ensures { λ r. ⌜ r ≡ aboveAll number (map carried (now (rows .entry))) ⌝ }
 {
     first_row(rows, Sought::NotBelow(number)) == rows.len()
+}
+
+// A row by its place, with the number of its stop.
+#[derive(Clone, Copy)]
+pub(crate) struct Found {
+    pub(crate) place: usize,
+    pub(crate) number: u32,
+}
+
+// The row with the lowest number.
+pub(crate) fn lowest_row<T: StopRow>(rows: &[T]) -> Option<Found>
+    ensures { λ r. ⌜ LeastRow (map carried (now (rows .entry))) r ⌝ }
+{
+    if rows.len() == 0 {
+        return None;
+    }
+    let mut best = 0;
+    for i in 1..rows.len() {
+        if rows[i].stop().number < rows[best].stop().number {
+            best = i;
+        }
+    }
+    Some(Found {
+        place: best,
+        number: rows[best].stop().number,
+    })
+}
+
+// The row with the lowest number among those ahead of the first that the price does not elect.
+pub(crate) fn lowest_elected<T: StopRow>(rows: &[T], price: u32) -> Option<Found>
+    ensures { λ r. ⌜ LeastRow (map carried (elected price carried (now (rows .entry)))) r ⌝ }
+{
+    let end = first_row(rows, Sought::Asleep(price));
+    lowest_row(&rows[0..end])
 }
