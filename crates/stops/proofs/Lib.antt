@@ -1,5 +1,4 @@
 pub mod Firsts
-pub mod Ascending
 pub mod Above
 pub mod Slotted
 pub mod Turns

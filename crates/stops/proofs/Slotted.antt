@@ -29,9 +29,16 @@ pub nth-within : {X : Type 0} (xs : List X) (i : ℕ) (x : X) → Some x ≡ nth
 nth-within xs i x e =
     ⊎-elim (λ (l : i < length xs). l) (λ (l : length xs ≤ i). let k : nth xs i ≡ None = nth-past xs i l in absurd (let z : _≡_ {A = ℕ} 0 1 = cc in omega arith)) (cases-lt i (length xs))
 
-module _ (t : Stop → Bool) (xs ys : List Stop) (h n i : ℕ) (e : n ≡ min h (length xs)) (at : i ≡ leading (past t) (take n xs)) where
+-- the count, by the slots
+pub count-is : (h : ℕ) (xs : List Stop) (n : ℕ) → n ≡ length (filled h xs) → n ≡ min h (length xs)
+count-is h xs n e = omega (arith, e, length-take (min h (length xs)) xs)
+
+module _ (t : Stop → Bool) (xs ys : List Stop) (h n i : ℕ) (count : n ≡ length (filled h xs)) (place : i ≡ leading (past t) (filled h xs)) where
   held : take n xs ≡ filled h xs
-  held = ap (λ (m : ℕ). take m xs) e
+  held = ap (λ (m : ℕ). take m xs) (count-is h xs n count)
+
+  at : i ≡ leading (past t) (take n xs)
+  at = place ∙ ap (leading (past t)) (sym held)
 
   found : nth (take n xs) i ≡ firstBy t (filled h xs)
   found = ap (nth (take n xs)) at ∙ first-nth t (take n xs) ∙ ap (firstBy t) held
@@ -40,6 +47,7 @@ module _ (t : Stop → Bool) (xs ys : List Stop) (h n i : ℕ) (e : n ≡ min h 
   pulled-some s len was is =
       let lt : i < length (take n xs) = nth-within (take n xs) i s was in
       let whole = length-take n xs in
+      let e = count-is h xs n count in
       let less = length-removed (take n xs) i lt in
       let all : min (n - 1) (length ys) ≡ n - 1 = omega arith in
       let front : take (n - 1) ys ≡ removed (take n xs) i = ap (take (n - 1)) is ∙ take-at (removed (take n xs) i) (s ∷ drop n xs) (n - 1) (omega arith) in
@@ -61,8 +69,8 @@ pub adding-done : (k : ℕ) (s : Stop) (ss : List Stop) → aboveAll (s .number)
 adding-done k s ss e f = sym (ap (λ (b : Bool). cond b (cond (eqb (length ss) k) (Err Full) (Ok tt)) (Err NotAbove)) e ∙ ap (λ (b : Bool). cond b (Err Full) (Ok tt)) f)
 
 -- one more slot used
-pub filled-more : (xs : List Stop) (h n : ℕ) (s : Stop) → n ≡ min h (length xs) → n < length xs → filled (n + 1) (set xs n s) ≡ filled h xs ++ s ∷ []
-filled-more xs h n s e lt =
+pub filled-more : (xs : List Stop) (h n : ℕ) (s : Stop) → n ≡ length (filled h xs) → n < length xs → filled (n + 1) (set xs n s) ≡ filled h xs ++ s ∷ []
+filled-more xs h n s count lt =
     let long = length-set xs n s in
     let all : min (n + 1) (length (set xs n s)) ≡ n + 1 = omega arith in
-    ap (λ (m : ℕ). take m (set xs n s)) all ∙ take-more-set xs n s lt ∙ ap (λ (m : ℕ). take m xs ++ s ∷ []) e
+    ap (λ (m : ℕ). take m (set xs n s)) all ∙ take-more-set xs n s lt ∙ ap (λ (m : ℕ). take m xs ++ s ∷ []) (count-is h xs n count)

@@ -1,5 +1,4 @@
--- What holds of every list that the operations reach from an emptied file.
-use mathlib.Core.Path.{_≡_}
+-- Ascending numbers, the lowest number, and the lists that the operations reach from an emptied file.
 use mathlib.Core.List.{List, [], _∷_}
 use mathlib.Core.Bool.{Bool, cond}
 use Prim.Native.Nat.{ℕ, _<_}
@@ -41,7 +40,3 @@ after k (taking p) ss = withoutBy (elects p) ss
 abbrev pub reached : ℕ → List Operation → List Stop
 reached k [] = []
 reached k (o ∷ os) = after k o (reached k os)
-
-pub record StopLaws : Type 0 where
-  pub ascending : (k : ℕ) (os : List Operation) → Ascends (reached k os)
-  pub lowest : (p : ℕ) (ss : List Stop) → Ascends ss → lowestBy (elects p) ss ≡ firstBy (elects p) ss

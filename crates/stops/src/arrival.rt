@@ -1,11 +1,14 @@
 // A stop file that keeps its stops in order of arrival, in slots that the caller lends.
 ghost use mathlib.Core.Path.{_≡_};
-ghost use Prim.Native.Nat.{_≤_, min};
-ghost use lib.ListN.{length, take};
+ghost use mathlib.Core.List.{[], _∷_, _++_};
+ghost use Prim.Native.Nat.{_<_};
+ghost use lib.ListN.{length};
 ghost use denote.Ref.{now};
 ghost use Rattle.std.specs.shelf.Lists.{leading};
 ghost use Rattle.stops.specs.Slots.{filled, filled-fits};
 ghost use Rattle.stops.specs.Stops.{firstBy, withoutBy, aboveAll};
+ghost use Rattle.stops.specs.Laws.{Ascends, lowestBy};
+ghost use Rattle.stops.specs.Rising.{ascends-reached};
 ghost use Rattle.stops.specs.Seeking.{meets, misses};
 use crate::rows::PlainStopRow;
 use crate::rows::Sought;
@@ -31,39 +34,46 @@ impl<'a> ArrivalFile<'a> {
         ArrivalFile { slots, held: 0 }
     }
 
-    fn live(&self) -> usize
-        ensures { λ r. ⌜ r ≡ min (now (self .entry) .held) (length (now (now (self .entry) .slots))) ⌝ }
+    // The place of the first stop that is looked for, or the count.
+    fn place_of(&self, sought: Sought) -> usize
+        ensures { λ r. ⌜ r ≡ leading (misses sought) (filled (now (self .entry) .held) (now (now (self .entry) .slots))) ⌝ }
     {
-        self.held.min(self.slots.len())
-    }
-
-    fn place_of(&self, n: usize, sought: Sought) -> usize
-        requires { ⌜ n ≤ length (now (now self .slots)) ⌝ }
-        ensures { λ r. ⌜ r ≡ leading (misses sought) (take n (now (now (self .entry) .slots))) ⌝ }
-    {
+        let n = self.count();
         first_row(&self.slots[0..n], sought)
     }
 
-    fn is_above(&self, n: usize, number: u32) -> bool
-        requires { ⌜ n ≤ length (now (now self .slots)) ⌝ }
-        ensures { λ r. ⌜ r ≡ aboveAll number (take n (now (now (self .entry) .slots))) ⌝ }
+    fn is_above(&self, number: u32) -> bool
+        ensures { λ r. ⌜ r ≡ aboveAll number (filled (now (self .entry) .held) (now (now (self .entry) .slots))) ⌝ }
     {
+        let n = self.count();
         is_above_all(&self.slots[0..n], number)
     }
 
     // Takes the first stop out that is looked for.
     fn pull(&mut self, sought: Sought) -> Option<Stop>
         ensures value { λ r. ⌜ r ≡ firstBy (meets sought) (filled (now (self .entry) .held) (now (now (self .entry) .slots))) ⌝ }
+        ensures lowest { λ r. ⌜ (Ascends (filled (now (self .entry) .held) (now (now (self .entry) .slots))) → r ≡ lowestBy (meets sought) (filled (now (self .entry) .held) (now (now (self .entry) .slots)))) ⌝ }
         ensures listed { λ _. ⌜ filled (now (self .exit) .held) (now (now (self .exit) .slots)) ≡ withoutBy (meets sought) (filled (now (self .entry) .held) (now (now (self .entry) .slots))) ⌝ }
         ensures keeps { λ _. ⌜ length (now (now (self .exit) .slots)) ≡ length (now (now (self .entry) .slots)) ⌝ }
     {
-        let n = self.live();
-        let i = self.place_of(n, sought);
+        let n = self.count();
+        let i = self.place_of(sought);
         let Some(stop) = remove_at(self.slots, n, i) else {
             return None;
         };
         self.held = n - 1;
         Some(stop)
+    }
+
+    // Writes a stop behind the others.
+    fn push(&mut self, stop: Stop)
+        requires { ⌜ length (filled (now self .held) (now (now self .slots))) < length (now (now self .slots)) ⌝ }
+        ensures listed { λ _. ⌜ filled (now (self .exit) .held) (now (now (self .exit) .slots)) ≡ filled (now (self .entry) .held) (now (now (self .entry) .slots)) ++ stop ∷ [] ⌝ }
+        ensures keeps { λ _. ⌜ length (now (now (self .exit) .slots)) ≡ length (now (now (self .entry) .slots)) ⌝ }
+    {
+        let n = self.count();
+        self.slots[n] = stop;
+        self.held = n + 1;
     }
 }
 
@@ -74,20 +84,20 @@ pub impl<'a> StopFile for ArrivalFile<'a> as ArrivalStopFile {
 
     ghost fits = { λ f. filled-fits (f .held) (now (f .slots)) };
 
+    ghost rises = { λ f. ascends-reached (length (now (f .slots))) };
+
     fn clear(&mut self) {
         self.held = 0;
     }
 
     fn add(&mut self, stop: Stop) -> Result<(), NotAdded> {
-        let n = self.live();
-        if !self.is_above(n, stop.number) {
+        if !self.is_above(stop.number) {
             return Err(NotAdded::NotAbove);
         }
-        if n == self.slots.len() {
+        if self.count() == self.capacity() {
             return Err(NotAdded::Full);
         }
-        self.slots[n] = stop;
-        self.held = n + 1;
+        self.push(stop);
         Ok(())
     }
 
@@ -103,7 +113,7 @@ pub impl<'a> StopFile for ArrivalFile<'a> as ArrivalStopFile {
     }
 
     fn count(&self) -> usize {
-        self.live()
+        self.held.min(self.capacity())
     }
 
     fn capacity(&self) -> usize {

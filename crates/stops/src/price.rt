@@ -2,12 +2,16 @@
 ghost use mathlib.Core.Path.{_≡_};
 ghost use mathlib.Core.Bool.{true};
 ghost use mathlib.Core.List.{[], _∷_, _++_};
-ghost use Prim.Native.Nat.{_+_, _<_, _≤_};
+ghost use Prim.Native.Nat.{_<_, _≤_};
+ghost use lib.ListN.{length};
 ghost use Rattle.std.specs.Options.{Cases as BySome};
 ghost use Rattle.std.specs.declared.option.Option.the-variants.{Some};
 ghost use Rattle.stops.specs.declared.seats.Seat.the-variants.{Buys, Sells};
-ghost use Rattle.stops.specs.Stops.{elects, numbered, aboveAll};
-ghost use Rattle.stops.specs.Tables.{asBuy, asSell, byNumber, Beside};
+ghost use Rattle.market.specs.declared.words.Side.the-variants.{Buy, Sell};
+ghost use Rattle.stops.specs.Stops.{elects, numbered, aboveAll, firstBy, withoutBy};
+ghost use Rattle.stops.specs.Laws.{Ascends, lowestBy};
+ghost use Rattle.stops.specs.Rising.{ascends-reached};
+ghost use Rattle.stops.specs.Tables.{byNumber, Beside};
 ghost use Rattle.stops.specs.Seats.{seated, Leads};
 ghost use Rattle.stops.specs.Priced.{buysOf, sellsOf, heldBy, held-fits};
 use crate::ranks::BuyRanked;
@@ -33,8 +37,35 @@ use market::words::Side;
 use market::words::Stop;
 
 impl PriceFile {
+    // An empty file.
+    pub fn new() -> PriceFile
+        ensures { λ r. ⌜ r .buying ≡ 0 ⌝ ∗ ⌜ r .selling ≡ 0 ⌝ }
+    {
+        PriceFile {
+            buys: [BuyStop {
+                number: 0,
+                price: 0,
+                shares: 0,
+            }; 512],
+            buying: 0,
+            sells: [SellStop {
+                number: 0,
+                price: 0,
+                shares: 0,
+            }; 512],
+            selling: 0,
+        }
+    }
+
+    fn used(&self) -> usize
+        ensures count { λ r. ⌜ r ≡ length (byNumber (heldBy (now (self .entry)))) ⌝ }
+        ensures within { λ r. ⌜ r ≤ 512 ⌝ }
+    {
+        self.buying + self.selling
+    }
+
     fn is_above(&self, number: u32) -> bool
-        ensures { λ r. ⌜ r ≡ aboveAll number (heldBy (now (self .entry))) ⌝ }
+        ensures { λ r. ⌜ r ≡ aboveAll number (byNumber (heldBy (now (self .entry)))) ⌝ }
     {
         is_above_all(&self.buys[0..self.buying], number)
             && is_above_all(&self.sells[0..self.selling], number)
@@ -98,10 +129,30 @@ impl PriceFile {
         }
     }
 
+    // Takes the stop of a number out.
+    fn pull_numbered(&mut self, number: u32) -> Option<Stop>
+        ensures value { λ r. ⌜ r ≡ firstBy (numbered number) (byNumber (heldBy (now (self .entry)))) ⌝ }
+        ensures listed { λ _. ⌜ byNumber (heldBy (now (self .exit))) ≡ withoutBy (numbered number) (byNumber (heldBy (now (self .entry)))) ⌝ }
+    {
+        let seat = self.seat_of(number);
+        self.pull(seat)
+    }
+
+    // Takes the lowest-numbered stop out that a price elects.
+    fn pull_elected(&mut self, price: u32) -> Option<Stop>
+        ensures value { λ r. ⌜ r ≡ firstBy (elects price) (byNumber (heldBy (now (self .entry)))) ⌝ }
+        ensures lowest { λ r. ⌜ (Ascends (byNumber (heldBy (now (self .entry)))) → r ≡ lowestBy (elects price) (byNumber (heldBy (now (self .entry))))) ⌝ }
+        ensures listed { λ _. ⌜ byNumber (heldBy (now (self .exit))) ≡ withoutBy (elects price) (byNumber (heldBy (now (self .entry)))) ⌝ }
+    {
+        let seat = self.seat_at(price);
+        self.pull(seat)
+    }
+
     fn file_buy(&mut self, stop: Stop)
-        requires above { ⌜ aboveAll (stop .number) (heldBy (now self)) ≡ true ⌝ }
-        requires room { ⌜ now self .buying + now self .selling < 512 ⌝ }
-        ensures { λ _. ⌜ byNumber (heldBy (now (self .exit))) ≡ byNumber (heldBy (now (self .entry))) ++ asBuy stop ∷ [] ⌝ }
+        requires side { ⌜ stop .side ≡ Buy ⌝ }
+        requires above { ⌜ aboveAll (stop .number) (byNumber (heldBy (now self))) ≡ true ⌝ }
+        requires room { ⌜ length (byNumber (heldBy (now self))) < 512 ⌝ }
+        ensures { λ _. ⌜ byNumber (heldBy (now (self .exit))) ≡ byNumber (heldBy (now (self .entry))) ++ stop ∷ [] ⌝ }
     {
         let row = BuyStop {
             number: stop.number,
@@ -115,9 +166,10 @@ impl PriceFile {
     }
 
     fn file_sell(&mut self, stop: Stop)
-        requires above { ⌜ aboveAll (stop .number) (heldBy (now self)) ≡ true ⌝ }
-        requires room { ⌜ now self .buying + now self .selling < 512 ⌝ }
-        ensures { λ _. ⌜ byNumber (heldBy (now (self .exit))) ≡ byNumber (heldBy (now (self .entry))) ++ asSell stop ∷ [] ⌝ }
+        requires side { ⌜ stop .side ≡ Sell ⌝ }
+        requires above { ⌜ aboveAll (stop .number) (byNumber (heldBy (now self))) ≡ true ⌝ }
+        requires room { ⌜ length (byNumber (heldBy (now self))) < 512 ⌝ }
+        ensures { λ _. ⌜ byNumber (heldBy (now (self .exit))) ≡ byNumber (heldBy (now (self .entry))) ++ stop ∷ [] ⌝ }
     {
         let row = SellStop {
             number: stop.number,
@@ -138,6 +190,8 @@ pub impl StopFile for PriceFile as PriceStopFile {
 
     ghost fits = { held-fits };
 
+    ghost rises = { λ _. ascends-reached 512 };
+
     fn clear(&mut self) {
         self.buying = 0;
         self.selling = 0;
@@ -147,7 +201,7 @@ pub impl StopFile for PriceFile as PriceStopFile {
         if !self.is_above(stop.number) {
             return Err(NotAdded::NotAbove);
         }
-        if self.buying + self.selling == CAPACITY {
+        if self.used() == CAPACITY {
             return Err(NotAdded::Full);
         }
         match stop.side {
@@ -158,20 +212,18 @@ pub impl StopFile for PriceFile as PriceStopFile {
     }
 
     fn remove(&mut self, number: u32) -> Option<u32> {
-        let seat = self.seat_of(number);
-        match self.pull(seat) {
+        match self.pull_numbered(number) {
             Some(stop) => Some(stop.shares),
             None => None,
         }
     }
 
     fn take_at(&mut self, price: u32) -> Option<Stop> {
-        let seat = self.seat_at(price);
-        self.pull(seat)
+        self.pull_elected(price)
     }
 
     fn count(&self) -> usize {
-        self.buying + self.selling
+        self.used()
     }
 
     fn capacity(&self) -> usize {

@@ -5,7 +5,7 @@ ghost use Prim.Native.Nat.{ℕ, _≤_};
 ghost use lib.ListN.{length};
 ghost use Rattle.market.specs.declared.words.Stop.{Stop as Stopped};
 ghost use Rattle.stops.specs.Stops.{elects, numbered, firstBy, withoutBy, sharesIn, adding, afterAdding};
-ghost use Rattle.stops.specs.Laws.{StopLaws};
+ghost use Rattle.stops.specs.Laws.{Ascends, lowestBy, Operation, reached};
 use market::words::Stop;
 
 // Why a stop was not added.
@@ -24,6 +24,9 @@ pub trait StopFile {
     ghost room: { Self → ℕ };
 
     ghost fits: { (f : Self) → length (stops f) ≤ room f };
+
+    // whatever operations follow a clearing, the numbers ascend
+    ghost rises: { (f : Self) (os : List Operation) → Ascends (reached (room f) os) };
 
     // Lets every stop go.
     fn clear(&mut self)
@@ -45,6 +48,7 @@ pub trait StopFile {
     // Takes the lowest-numbered stop out that the price elects.
     fn take_at(&mut self, price: u32) -> Option<Stop>
         ensures value { λ r. ⌜ r ≡ firstBy (elects price) (stops (now (self .entry))) ⌝ }
+        ensures lowest { λ r. ⌜ (Ascends (stops (now (self .entry))) → r ≡ lowestBy (elects price) (stops (now (self .entry)))) ⌝ }
         ensures listed { λ _. ⌜ stops (now (self .exit)) ≡ withoutBy (elects price) (stops (now (self .entry))) ⌝ }
         ensures keeps { λ _. ⌜ room (now (self .exit)) ≡ room (now (self .entry)) ⌝ };
 
@@ -55,12 +59,4 @@ pub trait StopFile {
     // How many there may be.
     fn capacity(&self) -> usize
         ensures { λ r. ⌜ r ≡ room (now (self .entry)) ⌝ };
-}
-
-// The list of a file that was emptied and then only used by these operations ascends in number,
-// and of a list that ascends the first elected stop is the lowest-numbered one.
-pub fn stop_laws_stand() -> u8
-    ensures { λ _. ⌜ StopLaws ⌝ }
-{
-    0
 }

@@ -22,25 +22,3 @@ pub struct PriceFile {
     ghost ranked: { (inTurn lowFirst (take buying buys) ≡ true) × (inTurn highFirst (take selling sells) ≡ true) },
     ghost distinct: { apart (both (take buying buys) (take selling sells)) ≡ true },
 }
-
-impl PriceFile {
-    // An empty file.
-    pub fn new() -> PriceFile
-        ensures { λ r. ⌜ r .buying ≡ 0 ⌝ ∗ ⌜ r .selling ≡ 0 ⌝ }
-    {
-        PriceFile {
-            buys: [BuyStop {
-                number: 0,
-                price: 0,
-                shares: 0,
-            }; 512],
-            buying: 0,
-            sells: [SellStop {
-                number: 0,
-                price: 0,
-                shares: 0,
-            }; 512],
-            selling: 0,
-        }
-    }
-}

@@ -5,6 +5,7 @@ ghost use mathlib.Core.List.{List, map, _++_};
 ghost use Prim.Native.Nat.{ℕ, min, _≤_};
 ghost use lib.ListN.{length, take, drop};
 ghost use Rattle.std.specs.shelf.Lists.{kept-by};
+ghost use Rattle.stops.specs.Laws.{Ascends};
 ghost use Rattle.stops.specs.Stops.{elects, withoutFirst};
 use crate::stop_file::StopFile;
 
@@ -15,6 +16,7 @@ pub fn take_all_at<F: StopFile>(file: &mut F, price: u32, numbers: &mut [u32]) -
     ensures listed { λ _. ⌜ stops (now (file .exit)) ≡ withoutFirst (length (now (numbers .entry))) (elects price) (stops (now (file .entry))) ⌝ }
     ensures written { λ r. ⌜ now (numbers .exit) ≡ map (λ s. s .number) (take (length (now (numbers .entry))) (kept-by (elects price) (stops (now (file .entry))))) ++ drop r (now (numbers .entry)) ⌝ }
     ensures others { λ _. ⌜ (length (kept-by (elects price) (stops (now (file .entry)))) ≤ length (now (numbers .entry)) → stops (now (file .exit)) ≡ kept-by (λ s. not (elects price s)) (stops (now (file .entry)))) ⌝ }
+    ensures rising { λ _. ⌜ (Ascends (stops (now (file .entry))) → Ascends (kept-by (elects price) (stops (now (file .entry))))) ⌝ }
     ensures keeps { λ _. ⌜ room (now (file .exit)) ≡ room (now (file .entry)) ⌝ }
 {
     let mut n = 0;

@@ -6,8 +6,8 @@ use Prim.Native.Nat.{ℕ, _<_}
 use native.Mathlib.Omega.{arith}
 use lib.Dec.{leb, ltb, eqb}
 use lib.ListN.{length}
-use Rattle.std.specs.shelf.Lists.{All}
-use Rattle.std.proofs.shelf.Elements.{all-push}
+use Rattle.std.specs.shelf.Lists.{All, kept-by}
+use Rattle.std.proofs.shelf.Elements.{all-push, all-kept-by}
 use Rattle.std.proofs.shelf.Tests.{and-parts, ltb-true, le-leb}
 use Rattle.std.specs.declared.option.Option.{Option}
 use Rattle.std.specs.declared.option.Option.the-variants.{Some, None}
@@ -16,7 +16,7 @@ use Rattle.market.specs.declared.words.Stop.{Stop}
 use Rattle.stops.specs.declared.stop_file.NotAdded.{NotAdded}
 use Rattle.stops.specs.declared.stop_file.NotAdded.the-variants.{NotAbove, Full}
 use Rattle.stops.specs.Stops.{elects, numbered, firstBy, withoutBy, aboveAll, adding, afterAdding}
-use Rattle.stops.specs.Laws.{Ascends, lower, lowestBy, Operation, clearing, entering, removing, taking, after, reached, StopLaws}
+use Rattle.stops.specs.Laws.{Ascends, lower, lowestBy, Operation, clearing, entering, removing, taking, after, reached}
 
 pub all-without : (P : Stop → Type 0) (t : Stop → Bool) (ss : List Stop) → All P ss → All P (withoutBy t ss)
 all-without P t [] h = tt
@@ -75,5 +75,11 @@ lowest-first t (x ∷ xs) h = go (t x) (lowest-first t xs (h .1))
     go true ih = ap (lower x) ih ∙ lower-all t x xs (h .0)
     go false ih = ih
 
-pub stop-laws : StopLaws
-stop-laws = record { ascending = ascends-reached; lowest = λ p. lowest-first (elects p) }
+-- what passes of a list that ascends, ascends
+pub ascends-kept : (t : Stop → Bool) (ss : List Stop) → Ascends ss → Ascends (kept-by t ss)
+ascends-kept t [] h = tt
+ascends-kept t (x ∷ xs) h = go (t x) (ascends-kept t xs (h .1))
+  where
+    go : (b : Bool) → Ascends (kept-by t xs) → Ascends (cond b (x ∷ kept-by t xs) (kept-by t xs))
+    go true ih = (all-kept-by t (λ u. x .number < u .number) xs (h .0), ih)
+    go false ih = ih
