@@ -1,18 +1,18 @@
 -- Taking a stop out of the first slots, and putting one behind them.
 use mathlib.Core.Path.{_≡_, refl, sym, ap, subst, _∙_}
-use mathlib.Core.Bool.{Bool, true, false, cond, not}
+use mathlib.Core.Bool.{Bool, true, false, cond, not, _&&_}
 use mathlib.Core.List.{List, [], _∷_, _++_}
 use mathlib.Core.Logic.{⊎-elim}
 use Prim.Native.Nat.{ℕ, suc, _+_, _-_, _<_, _≤_, min}
 use native.Mathlib.Omega.{arith}
-use lib.Dec.{eqb}
+use lib.Dec.{eqb, ltb, leb}
 use lib.ListN.{length, take, drop, set, length-take, length-set}
 use Rattle.std.specs.shelf.Lists.{leading, removed}
 use Rattle.std.specs.shelf.Maps.{nth}
 use Rattle.std.proofs.shelf.Maps.{nth-past}
 use Rattle.std.proofs.shelf.Lists.{take-at, take-more-set}
 use Rattle.std.proofs.shelf.Edits.{length-removed}
-use Rattle.std.proofs.shelf.Tests.{cases-lt}
+use Rattle.std.proofs.shelf.Tests.{cases-lt, and-cases, ltb-false, leb-false}
 use Rattle.std.specs.declared.option.Option.{Option}
 use Rattle.std.specs.declared.option.Option.the-variants.{Some, None}
 use Rattle.std.specs.declared.result.Result.{Result}
@@ -33,6 +33,12 @@ nth-within xs i x e =
 pub count-is : (h : ℕ) (xs : List Stop) (n : ℕ) → n ≡ length (filled h xs) → n ≡ min h (length xs)
 count-is h xs n e = omega (arith, e, length-take (min h (length xs)) xs)
 
+-- what is not taken is not there
+pub not-taken : {X : Type 0} (xs : List X) (n i : ℕ) → n ≤ length xs → false ≡ (ltb i n && leb n (length xs)) → None ≡ nth (take n xs) i
+not-taken xs n i l e =
+    let k : n ≤ i = ⊎-elim (λ (h : ltb i n ≡ false). ltb-false i n h) (λ (h : leb n (length xs) ≡ false). absurd (let z = leb-false n (length xs) h in omega arith)) (and-cases (ltb i n) (leb n (length xs)) (sym e)) in
+    sym (nth-past (take n xs) i (omega (arith, length-take n xs)))
+
 module _ (t : Stop → Bool) (xs ys : List Stop) (h n i : ℕ) (count : n ≡ length (filled h xs)) (place : i ≡ leading (past t) (filled h xs)) where
   held : take n xs ≡ filled h xs
   held = ap (λ (m : ℕ). take m xs) (count-is h xs n count)
@@ -43,19 +49,16 @@ module _ (t : Stop → Bool) (xs ys : List Stop) (h n i : ℕ) (count : n ≡ le
   found : nth (take n xs) i ≡ firstBy t (filled h xs)
   found = ap (nth (take n xs)) at ∙ first-nth t (take n xs) ∙ ap (firstBy t) held
 
-  pub pulled-some : (s : Stop) → length ys ≡ length xs → Some s ≡ nth (take n xs) i → ys ≡ removed (take n xs) i ++ (s ∷ drop n xs) → (Some s ≡ firstBy t (filled h xs)) × (filled (n - 1) ys ≡ withoutBy t (filled h xs))
-  pulled-some s len was is =
-      let lt : i < length (take n xs) = nth-within (take n xs) i s was in
-      let whole = length-take n xs in
+  pub pulled-some : (s : Stop) → length ys ≡ length xs → nth (take n xs) i ≡ Some s → take (n - 1) ys ≡ removed (take n xs) i → (Some s ≡ firstBy t (filled h xs)) × (filled (n - 1) ys ≡ withoutBy t (filled h xs))
+  pulled-some s len was front =
       let e = count-is h xs n count in
-      let less = length-removed (take n xs) i lt in
       let all : min (n - 1) (length ys) ≡ n - 1 = omega arith in
-      let front : take (n - 1) ys ≡ removed (take n xs) i = ap (take (n - 1)) is ∙ take-at (removed (take n xs) i) (s ∷ drop n xs) (n - 1) (omega arith) in
-      (was ∙ found, ap (λ (m : ℕ). take m ys) all ∙ front ∙ ap (removed (take n xs)) at ∙ without-removed t (take n xs) ∙ ap (withoutBy t) held)
+      (sym was ∙ found, ap (λ (m : ℕ). take m ys) all ∙ front ∙ ap (removed (take n xs)) at ∙ without-removed t (take n xs) ∙ ap (withoutBy t) held)
 
-  pub pulled-none : None ≡ nth (take n xs) i → ys ≡ xs → (None ≡ firstBy t (filled h xs)) × (filled h ys ≡ withoutBy t (filled h xs))
-  pulled-none was is =
-      let none : None ≡ firstBy t (filled h xs) = was ∙ found in
+  pub pulled-none : false ≡ (ltb i n && leb n (length xs)) → ys ≡ xs → (None ≡ firstBy t (filled h xs)) × (filled h ys ≡ withoutBy t (filled h xs))
+  pulled-none out is =
+      let e = count-is h xs n count in
+      let none : None ≡ firstBy t (filled h xs) = not-taken xs n i (omega arith) out ∙ found in
       (none, ap (filled h) is ∙ sym (untaken t (filled h xs) (sym none) .same))
 
 -- the ways of adding

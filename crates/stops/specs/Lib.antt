@@ -4,5 +4,6 @@ pub mod Rising
 pub mod Seeking
 pub mod Slots
 pub mod Tables
+pub mod Ranking
 pub mod Seats
 pub mod Priced

@@ -1,5 +1,6 @@
 // The rows of the price file, ranked so that those which a price elects stand in front.
 ghost use mathlib.Core.Path.{_≡_};
+ghost use Rattle.stops.specs.Ranking.{low-strict, high-strict};
 ghost use Rattle.stops.specs.Tables.{buyOf, sellOf, lowFirst, highFirst};
 use crate::rows::StopRow;
 use market::file::Ranked;
@@ -16,6 +17,8 @@ pub(crate) struct BuyStop {
 
 pub(crate) impl Ranked for BuyStop as BuyRanked {
     ghost before = { lowFirst };
+
+    ghost strict = { low-strict };
 
     fn precedes(&self, other: &BuyStop) -> bool {
         self.price < other.price || (self.price == other.price && self.number < other.number)
@@ -45,6 +48,8 @@ pub(crate) struct SellStop {
 
 pub(crate) impl Ranked for SellStop as SellRanked {
     ghost before = { highFirst };
+
+    ghost strict = { high-strict };
 
     fn precedes(&self, other: &SellStop) -> bool {
         other.price < self.price || (self.price == other.price && self.number < other.number)
