@@ -6,9 +6,8 @@ use Prim.Native.Nat.{ℕ, zero, suc, _+_, _≤_}
 use native.Mathlib.Numerals.{one-add}
 use native.Mathlib.Omega.{arith}
 use lib.ListN.{length}
-use Rattle.std.specs.shelf.Lists.{All, leading, removed, kept-by}
+use Rattle.std.specs.shelf.Lists.{leading, removed, kept-by}
 use Rattle.std.specs.shelf.Maps.{nth}
-use Rattle.std.specs.declared.option.Option.{Option}
 use Rattle.std.specs.declared.option.Option.the-variants.{Some, None}
 use Rattle.market.specs.declared.words.Stop.{Stop}
 use Rattle.stops.specs.Stops.{firstBy, withoutBy, withoutFirst}

@@ -5,13 +5,13 @@ use mathlib.Core.Bool.{Bool, true, false, cond, not}
 use Prim.Native.Nat.{ℕ, zero, suc, _+_, _<_, _≤_}
 use native.Mathlib.Numerals.{one-add}
 use native.Mathlib.Omega.{arith}
-use lib.Dec.{leb, ltb, eqb}
+use lib.Dec.{ltb}
 use lib.ListN.{length, getD, take, drop, take-append-drop, length-map}
 use Rattle.std.specs.shelf.Lists.{All, leading}
 use Rattle.std.specs.shelf.Maps.{nth}
 use Rattle.std.specs.shelf.Bests.{FirstBest}
 use Rattle.std.proofs.shelf.Elements.{all-weaker, all-append, all-map, all-from-getD}
-use Rattle.std.proofs.shelf.Lists.{map-append, getD-map, nil-from-length}
+use Rattle.std.proofs.shelf.Lists.{map-append, getD-map}
 use Rattle.std.proofs.shelf.Maps.{nth-getD, nth-past}
 use Rattle.std.proofs.shelf.Tests.{both-ways, ltb-true, ltb-false, eqb-true}
 use Rattle.std.proofs.shelf.Ways.{tells}
@@ -23,7 +23,6 @@ use Rattle.stops.specs.declared.ranks.BuyStop.{BuyStop}
 use Rattle.stops.specs.declared.ranks.SellStop.{SellStop}
 use Rattle.stops.specs.declared.rows.Found.{Found}
 use Rattle.stops.specs.declared.rows.Sought.the-variants.{Asleep}
-use Rattle.stops.specs.declared.seats.Seat.{Seat}
 use Rattle.stops.specs.declared.seats.Seat.the-variants.{Buys, Sells}
 use Rattle.stops.specs.Stops.{elects, numbered}
 use Rattle.stops.specs.Seeking.{misses}

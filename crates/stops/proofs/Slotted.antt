@@ -1,26 +1,20 @@
 -- Taking a stop out of the first slots, and putting one behind them.
-use mathlib.Core.Path.{_≡_, refl, sym, ap, subst, _∙_}
-use mathlib.Core.Bool.{Bool, true, false, cond, not, _&&_}
+use mathlib.Core.Path.{_≡_, sym, ap, _∙_}
+use mathlib.Core.Bool.{Bool, false, _&&_}
 use mathlib.Core.List.{List, [], _∷_, _++_}
 use mathlib.Core.Logic.{⊎-elim}
-use Prim.Native.Nat.{ℕ, suc, _+_, _-_, _<_, _≤_, min}
+use Prim.Native.Nat.{ℕ, _+_, _-_, _<_, _≤_, min}
 use native.Mathlib.Omega.{arith}
-use lib.Dec.{eqb, ltb, leb}
-use lib.ListN.{length, take, drop, set, length-take, length-set}
+use lib.Dec.{ltb, leb}
+use lib.ListN.{length, take, set, length-take, length-set}
 use Rattle.std.specs.shelf.Lists.{leading, removed}
 use Rattle.std.specs.shelf.Maps.{nth}
 use Rattle.std.proofs.shelf.Maps.{nth-past}
-use Rattle.std.proofs.shelf.Lists.{take-at, take-more-set}
-use Rattle.std.proofs.shelf.Edits.{length-removed}
+use Rattle.std.proofs.shelf.Lists.{take-more-set}
 use Rattle.std.proofs.shelf.Tests.{cases-lt, and-cases, ltb-false, leb-false}
-use Rattle.std.specs.declared.option.Option.{Option}
 use Rattle.std.specs.declared.option.Option.the-variants.{Some, None}
-use Rattle.std.specs.declared.result.Result.{Result}
-use Rattle.std.specs.declared.result.Result.the-variants.{Ok, Err}
 use Rattle.market.specs.declared.words.Stop.{Stop}
-use Rattle.stops.specs.declared.stop_file.NotAdded.{NotAdded}
-use Rattle.stops.specs.declared.stop_file.NotAdded.the-variants.{NotAbove, Full}
-use Rattle.stops.specs.Stops.{firstBy, withoutBy, aboveAll, adding, afterAdding}
+use Rattle.stops.specs.Stops.{firstBy, withoutBy}
 use Rattle.stops.specs.Slots.{filled}
 use Rattle.stops.proofs.Firsts.{past, first-nth, without-removed, untaken}
 
@@ -60,16 +54,6 @@ module _ (t : Stop → Bool) (xs ys : List Stop) (h n i : ℕ) (count : n ≡ le
       let e = count-is h xs n count in
       let none : None ≡ firstBy t (filled h xs) = not-taken xs n i (omega arith) out ∙ found in
       (none, ap (filled h) is ∙ sym (untaken t (filled h xs) (sym none) .same))
-
--- the ways of adding
-pub adding-low : (k : ℕ) (s : Stop) (ss : List Stop) → aboveAll (s .number) ss ≡ false → Err NotAbove ≡ adding k s ss
-adding-low k s ss e = sym (ap (λ (b : Bool). cond b (cond (eqb (length ss) k) (Err Full) (Ok tt)) (Err NotAbove)) e)
-
-pub adding-full : (k : ℕ) (s : Stop) (ss : List Stop) → aboveAll (s .number) ss ≡ true → eqb (length ss) k ≡ true → Err Full ≡ adding k s ss
-adding-full k s ss e f = sym (ap (λ (b : Bool). cond b (cond (eqb (length ss) k) (Err Full) (Ok tt)) (Err NotAbove)) e ∙ ap (λ (b : Bool). cond b (Err Full) (Ok tt)) f)
-
-pub adding-done : (k : ℕ) (s : Stop) (ss : List Stop) → aboveAll (s .number) ss ≡ true → eqb (length ss) k ≡ false → Ok tt ≡ adding k s ss
-adding-done k s ss e f = sym (ap (λ (b : Bool). cond b (cond (eqb (length ss) k) (Err Full) (Ok tt)) (Err NotAbove)) e ∙ ap (λ (b : Bool). cond b (Err Full) (Ok tt)) f)
 
 -- one more slot used
 pub filled-more : (xs : List Stop) (h n : ℕ) (s : Stop) → n ≡ length (filled h xs) → n < length xs → filled (n + 1) (set xs n s) ≡ filled h xs ++ s ∷ []

@@ -1,17 +1,16 @@
 -- A loop that takes stops out of a file and writes their numbers.
-use mathlib.Core.Path.{_≡_, refl, sym, ap, _∙_}
+use mathlib.Core.Path.{_≡_, sym, ap, _∙_}
 use mathlib.Core.Bool.{Bool, not}
 use mathlib.Core.List.{List, [], _∷_, _++_, map, append-assoc}
 use Prim.Native.Nat.{ℕ, suc, _+_, _-_, _<_, _≤_, min}
 use native.Mathlib.Omega.{arith}
 use lib.ListN.{length, take, drop, set, length-set, take-append-drop}
 use Rattle.std.specs.shelf.Lists.{kept-by}
-use Rattle.std.proofs.shelf.Lists.{take-more-set, drop-set-lt, drop-drop, drop-all, take-all, take-at, take-map, append-nil, length-append, length-map, length-take-le}
-use Rattle.std.specs.declared.option.Option.{Option}
+use Rattle.std.proofs.shelf.Lists.{take-more-set, drop-set-lt, drop-drop, take-all, take-at, take-map, append-nil, length-append, length-map, length-take-le}
 use Rattle.std.specs.declared.option.Option.the-variants.{Some, None}
 use Rattle.market.specs.declared.words.Stop.{Stop}
 use Rattle.stops.specs.Stops.{firstBy, withoutBy, withoutFirst}
-use Rattle.stops.proofs.Firsts.{past, kept-more, without-more, untaken, all-gone}
+use Rattle.stops.proofs.Firsts.{kept-more, without-more, untaken, all-gone}
 
 abbrev pub numbersOf : List Stop → List ℕ
 numbersOf ss = map (λ s. s .number) ss

@@ -7,7 +7,7 @@ use Rattle.std.specs.declared.option.Option.{Option}
 use Rattle.std.specs.declared.option.Option.the-variants.{Some, None}
 use Rattle.std.specs.shelf.Lists.{All}
 use Rattle.market.specs.declared.words.Stop.{Stop}
-use Rattle.stops.specs.Stops.{elects, numbered, firstBy, withoutBy, adding, afterAdding}
+use Rattle.stops.specs.Stops.{elects, numbered, withoutBy, adding, afterAdding}
 
 -- the numbers ascend
 abbrev pub Ascends : List Stop → Type 0

@@ -1,19 +1,17 @@
 -- The operations keep the numbers ascending, and then the first is the lowest.
-use mathlib.Core.Path.{_≡_, refl, sym, ap, _∙_}
+use mathlib.Core.Path.{_≡_, refl, ap, _∙_}
 use mathlib.Core.List.{List, [], _∷_, _++_}
-use mathlib.Core.Bool.{Bool, true, false, cond, _&&_}
+use mathlib.Core.Bool.{Bool, true, false, cond}
 use Prim.Native.Nat.{ℕ, _<_}
 use native.Mathlib.Omega.{arith}
-use lib.Dec.{leb, ltb, eqb}
+use lib.Dec.{ltb, eqb}
 use lib.ListN.{length}
 use Rattle.std.specs.shelf.Lists.{All, kept-by}
 use Rattle.std.proofs.shelf.Elements.{all-push, all-kept-by}
 use Rattle.std.proofs.shelf.Tests.{and-parts, ltb-true, le-leb}
-use Rattle.std.specs.declared.option.Option.{Option}
-use Rattle.std.specs.declared.option.Option.the-variants.{Some, None}
+use Rattle.std.specs.declared.option.Option.the-variants.{Some}
 use Rattle.std.specs.declared.result.Result.the-variants.{Ok, Err}
 use Rattle.market.specs.declared.words.Stop.{Stop}
-use Rattle.stops.specs.declared.stop_file.NotAdded.{NotAdded}
 use Rattle.stops.specs.declared.stop_file.NotAdded.the-variants.{NotAbove, Full}
 use Rattle.stops.specs.Stops.{elects, numbered, firstBy, withoutBy, aboveAll, adding, afterAdding}
 use Rattle.stops.specs.Laws.{Ascends, lower, lowestBy, Operation, clearing, entering, removing, taking, after, reached}

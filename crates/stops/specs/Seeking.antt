@@ -1,6 +1,5 @@
 -- What a scan of rows looks for.
 use mathlib.Core.Bool.{Bool, not}
-use Prim.Native.Nat.{ℕ}
 use lib.Dec.{leb}
 use Rattle.market.specs.declared.words.Stop.{Stop}
 use Rattle.stops.specs.declared.rows.Sought.{Sought}

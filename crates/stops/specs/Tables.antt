@@ -2,10 +2,7 @@
 use mathlib.Core.Path.{_≡_}
 use mathlib.Core.List.{List, [], _∷_, _++_, map}
 use mathlib.Core.Bool.{Bool, true, not, _&&_}
-use Prim.Native.Nat.{ℕ, _+_, _≤_}
-use native.Mathlib.Omega.{arith}
 use lib.Dec.{ltb, eqb}
-use lib.ListN.{length}
 use Rattle.std.specs.shelf.Lawful.{all-pass}
 use Rattle.market.specs.Files.{filed, byTurns}
 use Rattle.market.specs.declared.words.Stop.{Stop}

@@ -42,6 +42,7 @@ impl<'a> ArrivalFile<'a> {
         first_row(&self.slots[0..n], sought)
     }
 
+    // Whether a number is above every number held.
     fn is_above(&self, number: u32) -> bool
         ensures { λ r. ⌜ r ≡ aboveAll number (filled (now (self .entry) .held) (now (now (self .entry) .slots))) ⌝ }
     {

@@ -57,6 +57,7 @@ impl PriceFile {
         }
     }
 
+    // How many rows of both tables are in use.
     fn used(&self) -> usize
         ensures count { λ r. ⌜ r ≡ length (byNumber (heldBy (now (self .entry)))) ⌝ }
         ensures within { λ r. ⌜ r ≤ 512 ⌝ }
@@ -64,6 +65,7 @@ impl PriceFile {
         self.buying + self.selling
     }
 
+    // Whether a number is above every number held.
     fn is_above(&self, number: u32) -> bool
         ensures { λ r. ⌜ r ≡ aboveAll number (byNumber (heldBy (now (self .entry)))) ⌝ }
     {
@@ -95,6 +97,7 @@ impl PriceFile {
         lower_seat(buy, sell)
     }
 
+    // Takes the row at a place out of the buys.
     fn pull_buy(&mut self, i: usize) -> Option<Stop>
         ensures value { λ r. ⌜ r ≡ seated (buysOf (now (self .entry))) (sellsOf (now (self .entry))) (Some (Buys i)) ⌝ }
         ensures left { λ r. ⌜ BySome r (heldBy (now (self .exit)) ≡ heldBy (now (self .entry))) (λ s. Beside s (heldBy (now (self .entry))) (heldBy (now (self .exit)))) ⌝ }
@@ -106,6 +109,7 @@ impl PriceFile {
         Some(row.stop())
     }
 
+    // Takes the row at a place out of the sells.
     fn pull_sell(&mut self, i: usize) -> Option<Stop>
         ensures value { λ r. ⌜ r ≡ seated (buysOf (now (self .entry))) (sellsOf (now (self .entry))) (Some (Sells i)) ⌝ }
         ensures left { λ r. ⌜ BySome r (heldBy (now (self .exit)) ≡ heldBy (now (self .entry))) (λ s. Beside s (heldBy (now (self .entry))) (heldBy (now (self .exit)))) ⌝ }
@@ -148,6 +152,7 @@ impl PriceFile {
         self.pull(seat)
     }
 
+    // Files a buy stop whose number is above all, where there is room.
     fn file_buy(&mut self, stop: Stop)
         requires side { ⌜ stop .side ≡ Buy ⌝ }
         requires above { ⌜ aboveAll (stop .number) (byNumber (heldBy (now self))) ≡ true ⌝ }
@@ -165,6 +170,7 @@ impl PriceFile {
         self.buying += 1;
     }
 
+    // Files a sell stop whose number is above all, where there is room.
     fn file_sell(&mut self, stop: Stop)
         requires side { ⌜ stop .side ≡ Sell ⌝ }
         requires above { ⌜ aboveAll (stop .number) (byNumber (heldBy (now self))) ≡ true ⌝ }

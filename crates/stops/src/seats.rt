@@ -3,6 +3,7 @@ ghost use mathlib.Core.Path.{_≡_};
 ghost use Rattle.stops.specs.Seats.{lowerSeat};
 use crate::rows::Found;
 
+// A place among the buys or among the sells.
 #[derive(Clone, Copy)]
 pub(crate) enum Seat {
     Buys(usize),

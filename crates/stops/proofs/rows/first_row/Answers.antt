@@ -1,9 +1,9 @@
 use mathlib.Core.Path.{_≡_, sym, ap, _∙_}
-use mathlib.Core.Bool.{Bool, true, false, not}
+use mathlib.Core.Bool.{true, false, not}
 use native.Mathlib.Omega.{arith}
 use lib.ListN.{getD}
 use Rattle.std.proofs.shelf.Sums.{leading-drop-yes, leading-drop-no, leading-drop-all}
-use Rattle.stops.specs.Seeking.{meets, misses}
+use Rattle.stops.specs.Seeking.{misses}
 use Rattle.stops.proofs.rows.first_row.Needs as need
 
 pub returns-then-is-met : need.returns-then-is-met

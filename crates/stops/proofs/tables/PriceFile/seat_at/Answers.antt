@@ -1,4 +1,4 @@
-use mathlib.Core.Path.{_≡_, sym, subst}
+use mathlib.Core.Path.{sym, subst}
 use mathlib.Core.List.{map}
 use borrow.Author.Needs.{needs}
 use Rattle.std.specs.declared.option.Option.{Option}

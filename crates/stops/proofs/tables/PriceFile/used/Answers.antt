@@ -1,5 +1,4 @@
 use mathlib.Core.Path.{sym}
-use native.Mathlib.Omega.{arith}
 use Rattle.stops.specs.Priced.{length-held}
 use Rattle.stops.proofs.tables.PriceFile.used.Needs as need
 
