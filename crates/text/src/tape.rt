@@ -34,9 +34,13 @@ pub fn write_tape_line(line: TapeLine, buffer: &mut [u8]) -> Result<usize, Refus
     ensures buffer { λ _. ⌜ now (buffer .exit) ≡ putBuffer (Ok (tapeBytes line ++ 10 ∷ [])) (now (buffer .entry)) ⌝ }
 {
     match line {
-        TapeLine::Print { order, price, shares, low, high } => {
-            print_line(order, price, shares, low, high).copy_to(buffer)
-        }
+        TapeLine::Print {
+            order,
+            price,
+            shares,
+            low,
+            high,
+        } => { print_line(order, price, shares, low, high).copy_to(buffer) }
         TapeLine::Cancel { order, shares } => pair_line(b'X', order, shares).copy_to(buffer),
         TapeLine::Elect { order } => elect_line(order).copy_to(buffer),
         TapeLine::Floor { price, shares } => pair_line(b'F', price, shares).copy_to(buffer),
