@@ -7,6 +7,7 @@ use crate::words::Order;
 
 mod upkeep;
 
+#[derive(Drop)]
 pub struct Roll {
     orders: [Order; ROLL],
     count: usize,
