@@ -1,5 +1,4 @@
 // The rows of the price file, ranked so that those which a price elects stand in front.
-ghost use mathlib.Core.Path.{_≡_};
 ghost use Rattle.stops.specs.Ranking.{low-strict, high-strict};
 ghost use Rattle.stops.specs.Tables.{buyOf, sellOf, lowFirst, highFirst};
 use crate::rows::StopRow;

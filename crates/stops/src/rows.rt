@@ -1,7 +1,6 @@
 // Rows that each hold a stop, and one scan of them for all that is looked for.
 ghost use mathlib.Core.Path.{_≡_};
-ghost use mathlib.Core.Bool.{Bool};
-ghost use mathlib.Core.List.{List, map};
+ghost use mathlib.Core.List.{map};
 ghost use Prim.Native.Nat.{_≤_};
 ghost use lib.ListN.{length};
 ghost use Rattle.market.specs.declared.words.Stop.{Stop as Stopped};

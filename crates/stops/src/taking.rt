@@ -1,8 +1,8 @@
 // Taking stops out of any file until nothing is elected.
 ghost use mathlib.Core.Path.{_≡_};
 ghost use mathlib.Core.Bool.{not};
-ghost use mathlib.Core.List.{List, map, _++_};
-ghost use Prim.Native.Nat.{ℕ, min, _≤_};
+ghost use mathlib.Core.List.{map, _++_};
+ghost use Prim.Native.Nat.{min, _≤_};
 ghost use lib.ListN.{length, take, drop};
 ghost use Rattle.std.specs.shelf.Lists.{kept-by};
 ghost use Rattle.stops.specs.Laws.{Ascends};

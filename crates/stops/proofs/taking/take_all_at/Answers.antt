@@ -1,13 +1,8 @@
-use mathlib.Core.Path.{refl, _∙_}
-use native.Mathlib.Nat.{sub-zero}
-use native.Mathlib.Omega.{arith}
+use mathlib.Core.Path.{_∙_}
 use Rattle.stops.specs.Rising.{ascends-kept}
 use Rattle.stops.specs.Stops.{elects}
 use Rattle.stops.proofs.Turns.{taking-more, taking-full, taking-done}
 use Rattle.stops.proofs.taking.take_all_at.Needs as need
-
-pub loop-n-holds : need.loop-n-holds
-loop-n-holds g c = (record { written = refl; behind = refl; left = rw sub-zero; within = omega arith; long = refl }, refl)
 
 pub loop-n-again : need.loop-n-again
 loop-n-again g c = (taking-more (c .loop-n .inv .0) (c .loop-n-test .taken) (c .in-Some .ensures tt .value) (c .take-at .ensures .listed), c .take-at .ensures .keeps ∙ c .loop-n .inv .1)
