@@ -1,0 +1,16 @@
+pub mod Lists
+pub mod Refusals
+pub mod Days
+pub mod Rolls
+pub mod Book
+pub mod Moves
+pub mod Runs
+pub mod Calls
+pub mod Questions
+pub mod SharesAddUp
+pub mod BookInOrder
+pub mod Elections
+pub mod Lines
+pub mod RangeStays
+pub mod StopsUnseen
+pub mod TwoRules
