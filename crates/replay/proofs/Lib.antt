@@ -22,3 +22,4 @@ mod Blind
 mod BlindCalls
 mod Bounds
 mod History
+mod WorkedExamples

@@ -14,3 +14,4 @@ pub mod Lines
 pub mod RangeStays
 pub mod StopsUnseen
 pub mod TwoRules
+pub mod Examples

@@ -2,11 +2,19 @@
 // every lawful share-out rule, every capacity of the stop file and every list of calls: without its proof the crate is refused.
 ghost use Rattle.replay.specs.BookInOrder.{BookInOrder};
 ghost use Rattle.replay.specs.Elections.{ElectedByFirst, StopsAreFiled};
+ghost use Rattle.replay.specs.Examples.{Examples};
 ghost use Rattle.replay.specs.Lines.{NeverShort, TapeSuffices};
 ghost use Rattle.replay.specs.RangeStays.{RangeStays};
 ghost use Rattle.replay.specs.SharesAddUp.{SharesAddUp};
 ghost use Rattle.replay.specs.StopsUnseen.{StopsUnseen};
 ghost use Rattle.replay.specs.TwoRules.{BothRules};
+
+// Days worked out by hand come out as they should.
+pub fn examples_hold() -> u8
+    ensures { λ _. ⌜ Examples ⌝ }
+{
+    0
+}
 
 // Price and shares of stops that are never elected change nothing that anybody sees.
 pub fn unelected_stops_are_invisible() -> u8
