@@ -20,8 +20,8 @@ use Rattle.market.specs.declared.words.Column.{Column}
 use Rattle.market.specs.declared.words.Column.the-variants.{Lower, Higher}
 use Rattle.market.specs.declared.words.Order.{Order}
 use Rattle.market.specs.declared.words.Range.{Range}
-use Rattle.market.specs.Sides.{opposite}
-use Rattle.market.specs.Orders.{restsOn, whereWith, fill, cancel, put}
+use Rattle.market.specs.Sides.{opposite, sameSide}
+use Rattle.market.specs.Orders.{restsOn, whereWith, fill, cancel, put, isBook}
 use Rattle.market.specs.Ranges.{rangeAround, around, Band, bands, ofColumn, ofBand, valueIn}
 use Rattle.sharing.specs.Shares.{LawfulRule}
 use Rattle.replay.specs.Lists.{those, any}
@@ -94,7 +94,21 @@ any-among t (o ∷ os) e = go (t o) refl e (any-among t os)
     go false f e ih = inr (ih e)
 
 -- a price at which somebody rests
-resting-price : (c : Side) (p : ℕ) (os : List Order) → any (isAt c p) os ≡ true → All Fine os → p ≤ 100000
+on-book : (w : Place) → isBook w ≡ true → w ≡ Book
+on-book Nowhere e = absurd (false≢true e)
+on-book Book e = refl
+on-book Line e = absurd (false≢true e)
+on-book StopFile e = absurd (false≢true e)
+
+-- who rests has a price
+pub resting-priced : (c : Side) (p : ℕ) (os : List Order) → any (isAt c p) os ≡ true → All Fine os → 1 ≤ p
+resting-priced c p os e a = meet Fine (λ o. isAt c p o ≡ true) (1 ≤ p) os
+    (λ o f h.
+    let x : (restsOn c o ≡ true) × (eqb (o .price) p ≡ true) = and-parts (restsOn c o) (eqb (o .price) p) h in
+    let b : o .place ≡ Book = on-book (o .place) (and-parts (isBook (o .place)) (sameSide (o .side) c) (x .0) .0) in
+    subst (λ z. 1 ≤ z) (eqb-true (o .price) p (x .1)) (f .priced (ap isMarket (f .book b)))) a (any-among (isAt c p) os e)
+
+pub resting-price : (c : Side) (p : ℕ) (os : List Order) → any (isAt c p) os ≡ true → All Fine os → p ≤ 100000
 resting-price c p os e a = meet Fine (λ o. isAt c p o ≡ true) (p ≤ 100000) os
     (λ o f h. let z : o .price ≡ p = eqb-true (o .price) p (and-parts (restsOn c o) (eqb (o .price) p) h .1) in omega (arith, f .price)) a (any-among (isAt c p) os e)
 
@@ -139,6 +153,9 @@ pub range-is : (k : ℕ) (c : Column) (p : ℕ) → (1 ≤ k) × (k ≤ 3) → 1
 range-is k c p h l m =
     ap (λ b. cond b (Some (around p (valueIn bands k c p))) None)
     (and-from (isClass k) (isPrice p) (and-from (leb 1 k) (leb k 3) (le-leb 1 k (h .0)) (le-leb k 3 (h .1))) (and-from (leb 1 p) (leb p 100000) (le-leb 1 p l) (le-leb p 100000 m)))
+
+pub range-some : (k : ℕ) (c : Column) (p : ℕ) → (1 ≤ k) × (k ≤ 3) → 1 ≤ p → p ≤ 100000 → (g : Range) × (rangeAround k c p ≡ Some g)
+range-some k c p h l m = (around p (valueIn bands k c p), range-is k c p h l m)
 
 -- checks ---------------------------------------------------------------------------------------------------------------------------------------------
 good-price : (p : ℕ) → not (isPrice p) ≡ false → (1 ≤ p) × (p ≤ 100000)

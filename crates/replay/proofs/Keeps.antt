@@ -171,14 +171,13 @@ module _ (gifts : Rule) (lawful : LawfulRule gifts) where
     unfolding work
     works d s i = turns-lasts (busy d) d s i
 
-  module _ (I : Day → Type 0) (K : Lasts I) where
-    work-lasts : (d : Day) → Sound d → I d → I (work gifts d)
-    work-lasts d s i = works I (K .run) d s i
-
-    -- calls
-    join-lasts : (k : Kind) (s : Side) (m p q : ℕ) (d : Day) → Checked k m p q → leb 512 (length (d .roll)) ≡ false → Sound d → I d → I (join gifts (fresh k s m p q (d .roll)) d)
+  -- an order comes in
+  module _ (I : Day → Type 0) (runs : (r : Order) (d : Day) → Mid r d → 0 < left (r .number) (d .roll) → I d → I (run gifts r d))
+      (withdraws : (n : ℕ) (d : Day) → Counted 1 (numbers (d .roll)) → I d → I (withdraw n d))
+      (admits : (k : Kind) (s : Side) (m p q : ℕ) (w : Place) (d : Day) → Sound d → Checked k m p q → Placed k w (any (isContra (fresh k s m p q (d .roll))) (d .roll)) → I d → I (admit (fresh k s m p q (d .roll)) w d)) where
+    pub joins : (k : Kind) (s : Side) (m p q : ℕ) (d : Day) → Checked k m p q → leb 512 (length (d .roll)) ≡ false → Sound d → I d → I (join gifts (fresh k s m p q (d .roll)) d)
     unfolding join fresh
-    join-lasts k s m p q d ch l sd i = go (d .paused) k ch (any (isContra (fresh k s m p q (d .roll))) (d .roll)) refl
+    joins k s m p q d ch l sd i = go (d .paused) k ch (any (isContra (fresh k s m p q (d .roll))) (d .roll)) refl
       where
         contra : Kind → Bool
         contra k = any (isContra (fresh k s m p q (d .roll))) (d .roll)
@@ -187,7 +186,7 @@ module _ (gifts : Rule) (lawful : LawfulRule gifts) where
         e = ch .shares
 
         off : (k : Kind) (w : Place) → Checked k m p q → Held w q → Placed k w (contra k) → I (work gifts (admit (fresh k s m p q (d .roll)) w d))
-        off k w ch h pl = work-lasts _ (admit-fresh k s m p q w d h e l sd) (K .admit k s m p q w d sd ch pl i)
+        off k w ch h pl = works I runs _ (admit-fresh k s m p q w d h e l sd) (admits k s m p q w d sd ch pl i)
 
         placed : (k : Kind) (c : Bool) → contra k ≡ c → Placed k (startPlace k c) (contra k)
         placed Limit true f x = absurd (not-book x)
@@ -203,11 +202,19 @@ module _ (gifts : Rule) (lawful : LawfulRule gifts) where
         waiting x = absurd (let z : _≡_ {A = ℕ} 0 1 = cc in omega arith)
 
         go : (b : Bool) (k : Kind) → Checked k m p q → (c : Bool) → contra k ≡ c → I (joinOf gifts b k (fresh k s m p q (d .roll)) (startPlace k c) d)
-        go true ImmediateOrCancel ch c f = K .withdraw (suc (length (d .roll))) _ (admit-fresh ImmediateOrCancel s m p q Line d (good-shares q e .1) e l sd .counted) (K .admit ImmediateOrCancel s m p q Line d sd ch (λ x. waiting x) i)
+        go true ImmediateOrCancel ch c f = withdraws (suc (length (d .roll))) _ (admit-fresh ImmediateOrCancel s m p q Line d (good-shares q e .1) e l sd .counted) (admits ImmediateOrCancel s m p q Line d sd ch (λ x. waiting x) i)
         go true Limit ch c f = off Limit (startPlace Limit c) ch (start-held Limit c q (good-shares q e .1)) (placed Limit c f)
         go true Market ch c f = off Market Line ch (good-shares q e .1) (placed Market c f)
         go true Stop ch c f = off Stop StopFile ch (good-shares q e .1) (placed Stop c f)
         go false k ch c f = off k (startPlace k c) ch (start-held k c q (good-shares q e .1)) (placed k c f)
+
+  module _ (I : Day → Type 0) (K : Lasts I) where
+    work-lasts : (d : Day) → Sound d → I d → I (work gifts d)
+    work-lasts d s i = works I (K .run) d s i
+
+    -- calls
+    join-lasts : (k : Kind) (s : Side) (m p q : ℕ) (d : Day) → Checked k m p q → leb 512 (length (d .roll)) ≡ false → Sound d → I d → I (join gifts (fresh k s m p q (d .roll)) d)
+    join-lasts k s m p q d ch l sd i = joins I (K .run) (K .withdraw) (K .admit) k s m p q d ch l sd i
 
     filed-book : {A : Type 0} → StopFile ≡ Book → A
     filed-book x = absurd (let z : _≡_ {A = ℕ} 0 1 = cc in omega arith)

@@ -21,5 +21,6 @@ mod Ranges
 mod Blind
 mod BlindCalls
 mod Bounds
+mod Beginning
 mod History
 mod WorkedExamples

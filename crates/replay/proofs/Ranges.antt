@@ -37,34 +37,34 @@ use Rattle.replay.proofs.Calls.{passed-enter, good-shares, start-held, admit-f
 use Rattle.replay.proofs.Keeps.{works}
 use Rattle.market.specs.Bounds.{isShares}
 
-append-append : {A : Type 0} (xs ys zs : List A) → (xs ++ ys) ++ zs ≡ xs ++ (ys ++ zs)
+pub append-append : {A : Type 0} (xs ys zs : List A) → (xs ++ ys) ++ zs ≡ xs ++ (ys ++ zs)
 append-append [] ys zs = refl
 append-append (x ∷ xs) ys zs = ap (λ l. x ∷ l) (append-append xs ys zs)
 
-append-none : {A : Type 0} (xs : List A) → xs ++ [] ≡ xs
+pub append-none : {A : Type 0} (xs : List A) → xs ++ [] ≡ xs
 append-none [] = refl
 append-none (x ∷ xs) = ap (λ l. x ∷ l) (append-none xs)
 
-beyond-append : {A : Type 0} (xs ys : List A) → beyond xs (xs ++ ys) ≡ ys
+pub beyond-append : {A : Type 0} (xs ys : List A) → beyond xs (xs ++ ys) ≡ ys
 beyond-append [] ys = refl
 beyond-append (x ∷ xs) ys = beyond-append xs ys
 
 module _ (g : Range) (ts : List TapeLine) where
   -- since ts every print shows the range
-  abbrev Since : List TapeLine → Type 0
+  abbrev pub Since : List TapeLine → Type 0
   Since xs = (ls : List TapeLine) × (xs ≡ ts ++ ls) × All (Shows (g .low) (g .high)) ls
 
   since-more : (xs ks : List TapeLine) → All (Shows (g .low) (g .high)) ks → Since xs → Since (xs ++ ks)
   since-more xs ks a h = (h .0 ++ ks, ap (λ x. x ++ ks) (h .1) ∙ append-append ts (h .0) ks, all-append (Shows (g .low) (g .high)) (h .0) ks (h .2) a)
 
-  abbrev Shown : Day → Type 0
+  abbrev pub Shown : Day → Type 0
   Shown d = (d .range ≡ Some g) × Since (d .tape)
 
   elections : (ns : List ℕ) → All (Shows (g .low) (g .high)) (map Elect ns)
   elections [] = tt
   elections (n ∷ ns) = (tt, elections ns)
 
-  withdraw-shown : (n : ℕ) (d : Day) → Shown d → Shown (withdraw n d)
+  pub withdraw-shown : (n : ℕ) (d : Day) → Shown d → Shown (withdraw n d)
   unfolding withdraw
   withdraw-shown n d h = (h .0, since-more (d .tape) (Cancel n (left n (d .roll)) ∷ []) (tt, tt) (h .1))
 
@@ -102,7 +102,7 @@ module _ (g : Range) (ts : List TapeLine) where
     print-shown r (Some p) d h =
         (h .0, since-more (d .tape) (Print (r .number) p (size (r .number) (opposite (r .side)) p (d .roll)) (lowOf (d .range)) (highOf (d .range)) ∷ []) ((ap lowOf (h .0), ap highOf (h .0)), tt) (h .1))
 
-    run-shown : (r : Order) (d : Day) → Shown d → Shown (run gifts r d)
+    pub run-shown : (r : Order) (d : Day) → Shown d → Shown (run gifts r d)
     unfolding run
     run-shown r d h =
         let a : Option ℕ = firstPrice r d in

@@ -4,7 +4,7 @@ ghost use Rattle.replay.specs.BookInOrder.{BookInOrder};
 ghost use Rattle.replay.specs.Elections.{ElectedByFirst, StopsAreFiled};
 ghost use Rattle.replay.specs.Examples.{Examples};
 ghost use Rattle.replay.specs.Lines.{NeverShort, TapeSuffices};
-ghost use Rattle.replay.specs.RangeStays.{RangeStays};
+ghost use Rattle.replay.specs.RangeStays.{RangeBegins, RangeStays};
 ghost use Rattle.replay.specs.SharesAddUp.{SharesAddUp};
 ghost use Rattle.replay.specs.StopsUnseen.{StopsUnseen};
 ghost use Rattle.replay.specs.TwoRules.{BothRules};
@@ -68,6 +68,13 @@ pub fn never_short_of_lines() -> u8
 // A range in force stays through a call, and its prints show it.
 pub fn range_stays() -> u8
     ensures { λ _. ⌜ RangeStays ⌝ }
+{
+    0
+}
+
+// Where no range is in force, the first run that prints shows 0 and 0, and the range then stands round its last print.
+pub fn range_begins() -> u8
+    ensures { λ _. ⌜ RangeBegins ⌝ }
 {
     0
 }
