@@ -6,6 +6,7 @@ use Rattle.sharing.specs.Shares.{LawfulRule}
 use Rattle.replay.specs.Days.{Day, Rule, Call, newDay}
 use Rattle.replay.specs.Calls.{after-calls}
 use Rattle.replay.specs.BookInOrder.{Orderly, FilledBy, BookInOrder}
+use Rattle.replay.specs.Lines.{WorkedOff}
 use Rattle.replay.proofs.Runs.{Sound}
 use Rattle.replay.proofs.Calls.{calls-sound, new-sound}
 use Rattle.replay.proofs.Keeps.{always}
@@ -28,3 +29,6 @@ book-in-order gifts lawful room cs =
       range = f .range;
       filled = filled-sums d s f;
     }
+
+pub worked-off : WorkedOff
+worked-off gifts lawful room cs = calls-idle gifts lawful room cs newDay (new-sound gifts lawful) (new-idle gifts lawful)

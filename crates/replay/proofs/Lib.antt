@@ -5,6 +5,7 @@ mod Moves
 mod Prices
 mod Runs
 mod Calls
+mod Places
 mod Keeps
 mod Accepted
 mod Apart

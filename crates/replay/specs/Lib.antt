@@ -14,4 +14,5 @@ pub mod Lines
 pub mod RangeStays
 pub mod StopsUnseen
 pub mod TwoRules
+pub mod RollHolds
 pub mod Examples

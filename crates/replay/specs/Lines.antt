@@ -1,6 +1,8 @@
--- The lines of a call fit what it asks for, and 2,049 free lines are always enough. Assumes nothing.
+-- The line of waiting orders is worked off; the lines of a call fit what it asks for, and 2,049 free lines are always enough. Assumes nothing.
 use mathlib.Core.Path.{_≡_}
-use mathlib.Core.List.{List}
+use mathlib.Core.Bool.{true}
+use mathlib.Core.List.{List, []}
+use mathlib.Core.Logic.{_⊎_}
 use Prim.Native.Nat.{ℕ, suc, _≤_}
 use lib.ListN.{length}
 use Rattle.std.specs.declared.option.Option.the-variants.{Some}
@@ -41,3 +43,7 @@ freeLines Close = 2049
 -- with 2,049 free lines no call is refused for want of lines
 abbrev pub NeverShort : Type 0
 NeverShort = (gifts : Rule) → LawfulRule gifts → (room : ℕ) (cs : List Call) (c : Call) → 2049 ≤ freeLines c → refusal (checks room (after-calls gifts room newDay cs) c) ≡ Some tapeShort → ⊥
+
+-- After every call trading is paused or nobody is in line: the bound on the turns is never what stopped them.
+abbrev pub WorkedOff : Type 0
+WorkedOff = (gifts : Rule) → LawfulRule gifts → (room : ℕ) (cs : List Call) → (after-calls gifts room newDay cs .paused ≡ true) ⊎ (after-calls gifts room newDay cs .line ≡ [])

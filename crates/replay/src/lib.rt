@@ -3,8 +3,9 @@
 ghost use Rattle.replay.specs.BookInOrder.{BookInOrder};
 ghost use Rattle.replay.specs.Elections.{ElectedByFirst, StopsAreFiled};
 ghost use Rattle.replay.specs.Examples.{Examples};
-ghost use Rattle.replay.specs.Lines.{NeverShort, TapeSuffices};
+ghost use Rattle.replay.specs.Lines.{NeverShort, TapeSuffices, WorkedOff};
 ghost use Rattle.replay.specs.RangeStays.{RangeBegins, RangeStays};
+ghost use Rattle.replay.specs.RollHolds.{RollHolds};
 ghost use Rattle.replay.specs.SharesAddUp.{SharesAddUp};
 ghost use Rattle.replay.specs.StopsUnseen.{StopsUnseen};
 ghost use Rattle.replay.specs.TwoRules.{BothRules};
@@ -51,6 +52,13 @@ pub fn shares_add_up() -> u8
     0
 }
 
+// After every call the line is worked off, or trading is paused.
+pub fn line_is_worked_off() -> u8
+    ensures { λ _. ⌜ WorkedOff ⌝ }
+{
+    0
+}
+
 // A call writes no more lines than it asks for.
 pub fn lines_fit_the_need() -> u8
     ensures { λ _. ⌜ TapeSuffices ⌝ }
@@ -82,6 +90,13 @@ pub fn range_begins() -> u8
 // Time priority and rotation are lawful.
 pub fn both_rules_are_lawful() -> u8
     ensures { λ _. ⌜ BothRules ⌝ }
+{
+    0
+}
+
+// The orders of a day are numbered in turn, and the roll holds 512 of them.
+pub fn roll_holds_512() -> u8
+    ensures { λ _. ⌜ RollHolds ⌝ }
 {
     0
 }
