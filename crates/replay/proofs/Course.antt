@@ -16,7 +16,7 @@ use Rattle.market.specs.declared.words.Place.the-variants.{Book, Line, StopFile
 use Rattle.market.specs.declared.words.TapeLine.{TapeLine}
 use Rattle.market.specs.declared.words.TapeLine.the-variants.{Print, Cancel, Elect, Floor}
 use Rattle.market.specs.Sides.{asGood}
-use Rattle.replay.specs.Elections.{reaches, elects, cancels, runBy, isRunner, ofRun, Untouched, Struck, Elected, Fate}
+use Rattle.replay.specs.Elections.{reaches, elects, cancels, runBy, isRunner, ofRun, Untouched, Withdrawn, Elected, Fate}
 
 -- A stop sleeps in the file. The first P or F line that reaches its price makes it due by that run, or by no run.
 -- While it is due there come only lines of that run, and elections, and its own E line. Its X line takes it from the file unelected.
@@ -162,7 +162,7 @@ module _ (n : ℕ) (s : Side) (l : ℕ) where
       go false = inl (refl, (refl, refl, refl))
 
   abbrev Told : Course → List TapeLine → Type 0
-  Told w ls = ((w ≡ Asleep) × All (Untouched n s l) ls) ⊎ ((w ≡ Over) × (Struck n s l ls ⊎ Elected n s l ls))
+  Told w ls = ((w ≡ Asleep) × All (Untouched n s l) ls) ⊎ ((w ≡ Over) × (Withdrawn n s l ls ⊎ Elected n s l ls))
 
   longer : (w : Course) (x : TapeLine) (ls : List TapeLine) → Untouched n s l x → Told w ls → Told w (x ∷ ls)
   longer w x ls u (inl h) = inl (h .0, (u, h .1))
@@ -205,7 +205,7 @@ module _ (n : ℕ) (s : Side) (l : ℕ) where
   fate StopFile ls e = ⊎-elim (λ h. h .1) (λ h. absurd (let z : 0 ≡ 2 = ap code (h .0) in omega arith)) (tells ls Asleep (inl refl) e)
   fate Book ls e = over ls e
     where
-      over : (ls : List TapeLine) → course n s l Asleep ls ≡ Over → Struck n s l ls ⊎ Elected n s l ls
+      over : (ls : List TapeLine) → course n s l Asleep ls ≡ Over → Withdrawn n s l ls ⊎ Elected n s l ls
       over ls e = ⊎-elim (λ h. absurd (let z : 2 ≡ 0 = ap code (h .0) in omega arith)) (λ h. h .1) (tells ls Over (inr refl) e)
   fate Line ls e = ⊎-elim (λ h. absurd (let z : 2 ≡ 0 = ap code (h .0) in omega arith)) (λ h. h .1) (tells ls Over (inr refl) e)
   fate Nowhere ls e = ⊎-elim (λ h. absurd (let z : 2 ≡ 0 = ap code (h .0) in omega arith)) (λ h. h .1) (tells ls Over (inr refl) e)

@@ -27,6 +27,7 @@ InShown f = ((f .low ≡ 0) × (f .high ≡ 0)) ⊎ ((f .low ≤ f .price) × (f
 abbrev pub WithinLimit : List Order → Fill → Type 0
 WithinLimit os f = (o : Order) × (look (f .order) os ≡ Some o) × (inLimit o (f .price) ≡ true)
 
+-- the shares that a fill gave to order n
 abbrev pub sharesOf : ℕ → Fill → ℕ
 sharesOf n f = only (eqb (f .order) n) (f .shares)
 
@@ -59,5 +60,6 @@ pub record Orderly (d : Day) : Type 0 where
   -- an order's filled shares are the sum of its fills
   pub filled : All (λ o. o .filled ≡ total (sharesOf (o .number)) (d .fills)) (d .roll)
 
+-- All this holds after every list of calls.
 abbrev pub BookInOrder : Type 0
 BookInOrder = (gifts : Rule) → LawfulRule gifts → (room : ℕ) (cs : List Call) → Orderly (after-calls gifts room newDay cs)

@@ -60,11 +60,12 @@ ofRun k (Cancel m q) = isRunner k m
 ofRun k (Elect m) = true
 ofRun k (Floor p q) = false
 
+-- a line that neither reaches the stop of order n, nor elects or cancels it
 abbrev pub Untouched : ℕ → Side → ℕ → TapeLine → Type 0
 Untouched n s l x = (reaches s l x ≡ false) × (elects n x ≡ false) × (cancels n x ≡ false)
 
--- the stop was cancelled in the file, and no line before reached it
-pub record Struck (n : ℕ) (s : Side) (l : ℕ) (ls : List TapeLine) : Type 0 where
+-- The stop was cancelled in the file: no line before its X line reached it, and it is never elected.
+pub record Withdrawn (n : ℕ) (s : Side) (l : ℕ) (ls : List TapeLine) : Type 0 where
   pub before : List TapeLine
   pub shares : ℕ
   pub after : List TapeLine
@@ -72,7 +73,7 @@ pub record Struck (n : ℕ) (s : Side) (l : ℕ) (ls : List TapeLine) : Type 0 w
   pub asleep : All (Untouched n s l) before
   pub never : All (λ x. elects n x ≡ false) after
 
--- the first line that reached it brought its E line, before the next run, and there is no other E line of it
+-- The first line that reached it brought its E line, before the next run, and there is no other E line of it.
 pub record Elected (n : ℕ) (s : Side) (l : ℕ) (ls : List TapeLine) : Type 0 where
   pub before : List TapeLine
   pub first : TapeLine
@@ -86,10 +87,10 @@ pub record Elected (n : ℕ) (s : Side) (l : ℕ) (ls : List TapeLine) : Type 0 
 
 -- what the lines since a stop was filed tell of it, by where it is now
 abbrev pub Fate : ℕ → Side → ℕ → Place → List TapeLine → Type 0
-Fate n s l Book ls = Struck n s l ls ⊎ Elected n s l ls
-Fate n s l Line ls = Struck n s l ls ⊎ Elected n s l ls
+Fate n s l Book ls = Withdrawn n s l ls ⊎ Elected n s l ls
+Fate n s l Line ls = Withdrawn n s l ls ⊎ Elected n s l ls
 Fate n s l StopFile ls = All (Untouched n s l) ls
-Fate n s l Nowhere ls = Struck n s l ls ⊎ Elected n s l ls
+Fate n s l Nowhere ls = Withdrawn n s l ls ⊎ Elected n s l ls
 
 -- A filed stop stays filed while no print or floor trade reaches it and nobody cancels it; otherwise it was cancelled, or the first that reached it elected it.
 -- As this holds after every call, the E line comes in the call of the line that reached it.
@@ -108,5 +109,6 @@ pub record FiledAtOnce (gifts : Rule) (room : ℕ) (d : Day) : Type 0 where
   pub loaded : (s : Side) (m p q : ℕ) → refusal (checks room d (LoadStop s m p q)) ≡ None → IsFiled (suc (length (d .roll))) s p (step gifts room d (LoadStop s m p q) .day)
   pub entered : (s : Side) (m p q f : ℕ) → refusal (checks room d (Enter Stop s m p q f)) ≡ None → IsFiled (suc (length (d .roll))) s p (step gifts room d (Enter Stop s m p q f) .day)
 
+-- A stop is filed from its own call on.
 abbrev pub StopsAreFiled : Type 0
 StopsAreFiled = (gifts : Rule) → LawfulRule gifts → (room : ℕ) (cs : List Call) → FiledAtOnce gifts room (after-calls gifts room newDay cs)

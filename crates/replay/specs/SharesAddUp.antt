@@ -17,6 +17,7 @@ use Rattle.replay.specs.Days.{Day, newDay, Call, Set, LoadLimit, LoadStop, Ope
 use Rattle.replay.specs.Calls.{refusal, checks, step, after-calls}
 use Rattle.replay.specs.Questions.{totals}
 
+-- the shares of a P line, and those of an X line
 abbrev pub printOf : TapeLine → ℕ
 printOf (Print n p q l h) = q
 printOf (Cancel n q) = 0
@@ -29,19 +30,19 @@ cancelOf (Cancel n q) = q
 cancelOf (Elect n) = 0
 cancelOf (Floor p q) = 0
 
--- filled on side s
+-- the shares of an order that were filled on side s
 abbrev pub filledOn : Side → Order → ℕ
 filledOn s o = only (sameSide (o .side) s) (o .filled)
 
 pub record Conserved (d : Day) : Type 0 where
-  -- of each order
+  -- each order: what was accepted is filled, cancelled or open
   pub each : All (λ o. o .accepted ≡ o .filled + o .cancelled + o .«open») (d .roll)
-  -- of the day: accepted is twice printed, cancelled and open together
+  -- the day: each printed share is one bought and one sold
   pub sum : totals d .accepted ≡ 2 * totals d .printed + totals d .cancelled + totals d .«open»
   -- printed is the sum of the P lines, cancelled that of the X lines
   pub printed : totals d .printed ≡ total printOf (d .tape)
   pub cancelled : totals d .cancelled ≡ total cancelOf (d .tape)
-  -- bought and sold
+  -- what was bought and what was sold are each what was printed
   pub bought : total (filledOn Buy) (d .roll) ≡ total printOf (d .tape)
   pub sold : total (filledOn Sell) (d .roll) ≡ total printOf (d .tape)
 
@@ -66,6 +67,7 @@ unfoldable pub broughtIn : Rule → ℕ → Day → List Call → ℕ
 broughtIn gifts room d [] = 0
 broughtIn gifts room d (c ∷ cs) = ifPerformed (refusal (checks room d c)) (brings c) + broughtIn gifts room (step gifts room d c .day) cs
 
+-- Shares add up after every list of calls, and what is accepted in all came in by the calls that were performed.
 abbrev pub SharesAddUp : Type 0
 SharesAddUp = (gifts : Rule) → LawfulRule gifts → (room : ℕ) (cs : List Call)
     → Conserved (after-calls gifts room newDay cs) × (totals (after-calls gifts room newDay cs) .accepted ≡ broughtIn gifts room newDay cs)
