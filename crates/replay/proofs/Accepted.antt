@@ -21,13 +21,13 @@ use Rattle.sharing.specs.Shares.{LawfulRule}
 use Rattle.replay.specs.Lists.{total, any}
 use Rattle.replay.specs.Days.{Day, Rule, Call, Set, LoadLimit, LoadStop, Open, Enter, CancelOrder, FloorTrade, Resume, Close, newDay}
 use Rattle.replay.specs.Rolls.{alter, here, fresh}
-use Rattle.replay.specs.Book.{isAt, isContra}
+use Rattle.replay.specs.Book.{isBetter, isAt, isContra}
 use Rattle.replay.specs.Moves.{deal, after, size, trade, leave, withdraw, rest, pause, elect, centre, admit, setUp, to, floored, resumed}
 use Rattle.replay.specs.Runs.{work, startPlace, joinOf, join}
 use Rattle.replay.specs.Calls.{refusal, decided, checks, became, perform, step, after-calls}
 use Rattle.replay.specs.Questions.{totals}
 use Rattle.replay.specs.SharesAddUp.{brings, ifPerformed, broughtIn, SharesAddUp, printOf, cancelOf}
-use Rattle.replay.proofs.Rolls.{Held, total-alter}
+use Rattle.replay.proofs.Rolls.{Held, total-alter, dealt-is}
 use Rattle.replay.proofs.Conservation.{total-push}
 use Rattle.replay.proofs.Moves.{total-called}
 use Rattle.replay.proofs.Runs.{Sound, elect-sound}
@@ -59,7 +59,8 @@ put-in w o = refl
 deal-in : (c : Side) (p : ℕ) (os : List Order) (gs : List ℕ) → taken-in (deal c p os gs) ≡ taken-in os
 unfolding deal
 deal-in c p [] gs = refl
-deal-in c p (o ∷ os) gs = ap (λ x. o .accepted + x) (deal-in c p os (after (isAt c p o) gs))
+deal-in c p (o ∷ os) gs =
+    ap (λ x. x + taken-in (deal c p os (after (isAt c p o) gs))) (dealt-is (λ u. u .accepted ≡ o .accepted) (isBetter c p o) (isAt c p o) gs o (λ q. refl) refl) ∙ ap (λ x. o .accepted + x) (deal-in c p os (after (isAt c p o) gs))
 
 module _ (gifts : Rule) (lawful : LawfulRule gifts) where
   moves-in : (k : ℕ) → Moves gifts lawful (λ d. taken-in (d .roll) ≡ k)

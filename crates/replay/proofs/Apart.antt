@@ -28,7 +28,7 @@ use Rattle.replay.specs.Questions.{quote, quoteOf}
 use Rattle.replay.proofs.Runs.{Mid}
 use Rattle.replay.proofs.Calls.{put-place, fresh-limit}
 use Rattle.replay.proofs.Keeps.{Placed, Keeps}
-use Rattle.replay.proofs.Rolls.{all-alter}
+use Rattle.replay.proofs.Rolls.{all-alter, dealt-is}
 use Rattle.replay.proofs.Prices.{all-map, Among, meet, in-prices, best-in}
 
 abbrev pub Below : Order → Order → Type 0
@@ -79,7 +79,7 @@ thin-cancel o = record { rest = λ c e. absurd (false≢true e); price = refl }
 pub thin-deal : (c : Side) (p : ℕ) (os : List Order) (gs : List ℕ) → Each Thin os (deal c p os gs)
 unfolding deal
 thin-deal c p [] gs = tt
-thin-deal c p (o ∷ os) gs = (thin-fill (part (isBetter c p o) (isAt c p o) (o .«open») gs) o, thin-deal c p os (after (isAt c p o) gs))
+thin-deal c p (o ∷ os) gs = (dealt-is (Thin o) (isBetter c p o) (isAt c p o) gs o (λ q. thin-fill q o) (record { rest = λ c e. e; price = refl }), thin-deal c p os (after (isAt c p o) gs))
 
 pub thin-called : (p : ℕ) (os : List Order) → Each Thin os (map (λ o. called (isElected p o) o) os)
 thin-called p [] = tt

@@ -28,12 +28,12 @@ use Rattle.replay.specs.Lists.{only, total, those, kept, any}
 use Rattle.replay.specs.Days.{Day, Rule}
 use Rattle.replay.specs.Rolls.{isFiled, isWaiting, look, found, alter, here, left, openOf, filed, placeOf}
 use Rattle.replay.specs.Book.{best, isAt, isBetter, isUpTo, ahead, row, depth, prices, isContra, isReached}
-use Rattle.replay.specs.Moves.{lowOf, highOf, deal, part, after, size, trade, leave, withdraw, rest, pause, elect, isElected, called, centre, without}
+use Rattle.replay.specs.Moves.{lowOf, highOf, deal, part, after, size, trade, leave, withdraw, rest, pause, elect, isElected, called, centre, without, dealt}
 use Rattle.replay.specs.Runs.{allowed, firstPrice, cleanUp, or, ifLeft, nextPrice, printAt, residual, settleOf, settle, electAt, centreIf, run, runOf, turnOf, turn, turns, work, busy}
 use Rattle.replay.specs.StopsUnseen.{SameLine, unelected, Unelected}
 use Rattle.replay.proofs.Moves.{Waits}
 use Rattle.replay.proofs.Prices.{Among}
-use Rattle.replay.proofs.Rolls.{Held, look-deal, look-same}
+use Rattle.replay.proofs.Rolls.{Held, look-deal, look-same, no-part}
 use Rattle.replay.proofs.Runs.{Sound, waiter, look-number, turn-sound, fill-number}
 
 -- neither resting nor waiting
@@ -185,36 +185,6 @@ module _ (N : ℕ → Bool) where
           subst (λ b. Rolls (f o ∷ os) (here b f u us (alter n f us))) (sym t) (inl (let s : o ≡ u = cc in ap f s), z .1)
       go false t e e′ ih = subst (λ b. Rolls (o ∷ alter n f os) (here b f u us (alter n f us))) (sym t) (z .0, ih e (ap (λ b. found b u (look n us)) (sym t) ∙ e′))
 
-  spot-aside : (w : Place) (n : ℕ) → Aside w → Held w n → whereWith (n - 0) w ≡ w
-  spot-aside Book n a h = absurd a
-  spot-aside Line n a h = absurd a
-  spot-aside StopFile n a h = ap (λ b. cond b Nowhere StopFile) (ne-eqb (n - 0) 0 (λ e. omega arith))
-  spot-aside Nowhere n a h = go (eqb (n - 0) 0)
-    where
-      go : (b : Bool) → cond b Nowhere Nowhere ≡ Nowhere
-      go true = refl
-      go false = refl
-
-  hidden-idle : (o u : Order) → Hidden o u → Hidden (fill 0 o) (fill 0 u)
-  hidden-idle o u h =
-      let p : whereWith (o .«open» - 0) (o .place) ≡ o .place = spot-aside (o .place) (o .«open») (h .aside) (h .held) in
-      let q : whereWith (u .«open» - 0) (u .place) ≡ u .place = spot-aside (u .place) (u .«open») (subst Aside (h .place) (h .aside)) (h .held′) in
-      record {
-        number = h .number;
-        named = h .named;
-        member = h .member;
-        place = p ∙ h .place ∙ sym q;
-        aside = subst Aside (sym p) (h .aside);
-        held = subst (λ w. Held w (o .«open» - 0)) (sym p) (subst (λ n. Held (o .place) n) (minus (o .«open»)) (h .held));
-        held′ = subst (λ w. Held w (u .«open» - 0)) (sym q) (subst (λ n. Held (u .place) n) (minus (u .«open»)) (h .held′));
-      }
-    where
-      minus : (n : ℕ) → n ≡ n - 0
-      minus n = omega arith
-
-  dull-part : (c : Side) (p n : ℕ) (gs : List ℕ) (o : Order) → isBook (o .place) ≡ false → part (isBetter c p o) (isAt c p o) n gs ≡ 0
-  dull-part c p n gs o e = rw e refl
-
   dull-after : (c : Side) (p : ℕ) (gs : List ℕ) (o : Order) → isBook (o .place) ≡ false → after (isAt c p o) gs ≡ gs
   dull-after c p gs o e = rw e refl
 
@@ -225,15 +195,15 @@ module _ (N : ℕ → Bool) where
   deal-alike c p (o ∷ os) [] gs z = absurd z
   deal-alike c p (o ∷ os) (u ∷ us) gs z = go (λ gs. deal-alike c p os us gs (z .1)) (z .0)
     where
-      go : ((gs : List ℕ) → Rolls (deal c p os gs) (deal c p us gs)) → Alike o u → Alike (fill (part (isBetter c p o) (isAt c p o) (o .«open») gs) o) (fill (part (isBetter c p u) (isAt c p u) (u .«open») gs) u)
+      go : ((gs : List ℕ) → Rolls (deal c p os gs) (deal c p us gs)) → Alike o u → Alike (dealt (isBetter c p o) (isAt c p o) gs o) (dealt (isBetter c p u) (isAt c p u) gs u)
           × Rolls (deal c p os (after (isAt c p o) gs)) (deal c p us (after (isAt c p u) gs))
       go ih (inl e) = (
-        inl (ap (λ x. fill (part (isBetter c p x) (isAt c p x) (x .«open») gs) x) e),
+        inl (ap (λ x. dealt (isBetter c p x) (isAt c p x) gs x) e),
         subst (λ x. Rolls (deal c p os (after (isAt c p o) gs)) (deal c p us (after (isAt c p x) gs))) e (ih (after (isAt c p o) gs)),
       )
       go ih (inr h) = (
-        inr (subst (λ m. Hidden (fill m o) (fill (part (isBetter c p u) (isAt c p u) (u .«open») gs) u)) (sym (dull-part c p (o .«open») gs o (hidden-left o u h)))
-            (subst (λ m. Hidden (fill 0 o) (fill m u)) (sym (dull-part c p (u .«open») gs u (hidden-right o u h))) (hidden-idle o u h))),
+        inr (subst (λ x. Hidden x (dealt (isBetter c p u) (isAt c p u) gs u)) (sym (no-part c p gs o (hidden-left o u h)))
+            (subst (λ x. Hidden o x) (sym (no-part c p gs u (hidden-right o u h))) h)),
         subst (λ g. Rolls (deal c p os g) (deal c p us (after (isAt c p u) gs))) (sym (dull-after c p gs o (hidden-left o u h)))
             (subst (λ g. Rolls (deal c p os gs) (deal c p us g)) (sym (dull-after c p gs u (hidden-right o u h))) (ih gs)),
       )
@@ -274,7 +244,7 @@ module _ (N : ℕ → Bool) where
       }
     where
       whole : (gs : List ℕ) (k : ℕ) → Rolls (alter n (fill k) (deal c p (d .roll) gs)) (alter n (fill k) (deal c p (e .roll) gs))
-      whole gs k = alter-alike n (fill k) (fill 0 x) (deal c p (d .roll) gs) (deal c p (e .roll) gs) (deal-alike c p (d .roll) (e .roll) gs (t .roll))
+      whole gs k = alter-alike n (fill k) x (deal c p (d .roll) gs) (deal c p (e .roll) gs) (deal-alike c p (d .roll) (e .roll) gs (t .roll))
           (look-deal n c p (d .roll) gs x i w) (look-deal n c p (e .roll) gs x j w)
 
   -- elections ------------------------------------------------------------------------------------------------------------------------------
@@ -513,11 +483,11 @@ module _ (N : ℕ → Bool) where
         = ap (λ y. min y (depth c p (d .roll))) (same-left n d e m) ∙ ap (λ y. min (left n (e .roll)) y) (same-depth c p (d .roll) (e .roll) (m .twin .roll)) in
         record {
           twin = trade-twin gifts n c p x d e (m .twin) (m .is) (m .is′) (m .off);
-          runner = fill (size n c p (d .roll)) (fill 0 x);
-          is = look-same n (fill (size n c p (d .roll))) _ (fill 0 x) (fill-number (size n c p (d .roll))) (look-deal n c p (d .roll) _ x (m .is) (m .off));
-          is′ = look-same n (fill (size n c p (e .roll))) _ (fill 0 x) (fill-number (size n c p (e .roll))) (look-deal n c p (e .roll) _ x (m .is′) (m .off))
-              ∙ ap (λ k. Some (fill k (fill 0 x))) (sym q);
-          off = spot-off ((x .«open» - 0) - size n c p (d .roll)) (whereWith (x .«open» - 0) (x .place)) (spot-off (x .«open» - 0) (x .place) (m .off));
+          runner = fill (size n c p (d .roll)) x;
+          is = look-same n (fill (size n c p (d .roll))) _ x (fill-number (size n c p (d .roll))) (look-deal n c p (d .roll) _ x (m .is) (m .off));
+          is′ = look-same n (fill (size n c p (e .roll))) _ x (fill-number (size n c p (e .roll))) (look-deal n c p (e .roll) _ x (m .is′) (m .off))
+              ∙ ap (λ k. Some (fill k x)) (sym q);
+          off = spot-off (x .«open» - size n c p (d .roll)) (x .place) (m .off);
         }
 
     printAt-twin : (r : Order) (x : Option ℕ) (d e : Day) → MidTwin (r .number) d e → MidTwin (r .number) (printAt gifts r x d) (printAt gifts r x e)

@@ -30,7 +30,7 @@ use Rattle.replay.specs.Rolls.{look, alter, fresh, priceOf, isMarket}
 use Rattle.replay.specs.Book.{isAt, isBetter}
 use Rattle.replay.specs.Moves.{deal, part, after, size, trade, leave, withdraw, rest, pause, elect, isElected, called, centre, admit, floored, resumed, setUp, to}
 use Rattle.replay.specs.Calls.{after-calls}
-use Rattle.replay.proofs.Rolls.{all-alter}
+use Rattle.replay.proofs.Rolls.{all-alter, dealt-is}
 use Rattle.replay.proofs.Prices.{Among, meet, all-map}
 use Rattle.replay.proofs.Runs.{Mid, Prints}
 use Rattle.replay.proofs.Calls.{Checked}
@@ -75,7 +75,7 @@ called-fine false o f = f
 all-deal : (c : Side) (p : ℕ) (os : List Order) (gs : List ℕ) → All Fine os → All Fine (deal c p os gs)
 unfolding deal
 all-deal c p [] gs a = tt
-all-deal c p (o ∷ os) gs a = (fill-fine (part (isBetter c p o) (isAt c p o) (o .«open») gs) o (a .0), all-deal c p os (after (isAt c p o) gs) (a .1))
+all-deal c p (o ∷ os) gs a = (dealt-is Fine (isBetter c p o) (isAt c p o) gs o (λ q. fill-fine q o (a .0)) (a .0), all-deal c p os (after (isAt c p o) gs) (a .1))
 
 all-called : (p : ℕ) (os : List Order) → All Fine os → All Fine (map (λ o. called (isElected p o) o) os)
 all-called p [] a = tt

@@ -115,13 +115,13 @@ module _ (gifts : Rule) (lawful : LawfulRule gifts) (n : ℕ) (r : Order) (c : S
   pub gs-sum : ahead c p os + total (λ n. n) gs ≡ qty
   gs-sum = ap (λ n. ahead c p os + n) (gifts-sum gifts lawful (row c p os) (qty - ahead c p os) lawfulRow (fits .gifts-whole) (fits .over) (fits .held)) ∙ fits .sum
 
-  runner : look n (deal c p os gs) ≡ Some (fill 0 r)
+  runner : look n (deal c p os gs) ≡ Some r
   runner = look-deal n c p os gs r (k .is) (ap isBook (k .waits))
 
   good-runner : (o : Order) → look n (deal c p os gs) ≡ Some o → Good o → Good (fill qty o)
   good-runner o e g =
-      let s : fill 0 r ≡ o = some-inj (sym runner ∙ e) in
-      good-fill qty o g (subst (λ x. qty ≤ x) (ap (λ (x : Order). x .«open») s) (omega (arith, fits .under))) (fits .whole)
+      let s : r ≡ o = some-inj (sym runner ∙ e) in
+      good-fill qty o g (subst (λ x. qty ≤ x) (ap (λ (x : Order). x .«open») s) (fits .under)) (fits .whole)
     where
       some-inj : {x y : Order} → Some x ≡ Some y → x ≡ y
       some-inj e = cc
@@ -130,13 +130,13 @@ module _ (gifts : Rule) (lawful : LawfulRule gifts) (n : ℕ) (r : Order) (c : S
   traded-filled s =
       let e₁ : total (filledOn s) (deal c p os gs) ≡ total (filledOn s) os + only (sameSide c s) qty
       = deal-filled s c p os gs zip ∙ ap (λ n. total (filledOn s) os + only (sameSide c s) n) gs-sum in
-      let e₂ : total (filledOn s) (alter n (fill qty) (deal c p os gs)) + only (sameSide (r .side) s) (r .filled + 0)
-      ≡ total (filledOn s) (deal c p os gs) + only (sameSide (r .side) s) ((r .filled + 0) + qty)
+      let e₂ : total (filledOn s) (alter n (fill qty) (deal c p os gs)) + only (sameSide (r .side) s) (r .filled)
+      ≡ total (filledOn s) (deal c p os gs) + only (sameSide (r .side) s) (r .filled + qty)
       = subst (λ x. total (filledOn s) (alter n (fill qty) (deal c p os gs)) + val (filledOn s) x ≡ total (filledOn s) (deal c p os gs) + val (λ o. filledOn s (fill qty o)) x)
       runner (total-alter (filledOn s) n (fill qty) (deal c p os gs)) in
       let e₃ : only (sameSide c s) qty + only (sameSide (r .side) s) qty ≡ qty
       = ap (λ x. only (sameSide x s) qty + only (sameSide (r .side) s) qty) (k .contra) ∙ both-sides (r .side) s qty in
-      omega (arith, e₁, e₂, e₃, only-add (sameSide (r .side) s) (r .filled + 0) qty)
+      omega (arith, e₁, e₂, e₃, only-add (sameSide (r .side) s) (r .filled) qty)
 
   traded-struck : total (λ o. o .cancelled) (alter n (fill qty) (deal c p os gs)) ≡ total (λ o. o .cancelled) os
   traded-struck =

@@ -192,7 +192,8 @@ module _ (n : ℕ) (s : Side) (l : ℕ) (ts : List TapeLine) where
     where
       go : (y : Option Order) → look n (deal c p os gs) ≡ y → Dealt (Some (g .0)) y → Gone (deal c p os gs)
       go None i h = absurd h
-      go (Some u) i h = (u, i, ap (λ (x : Order). isFiled (x .place)) (h .1) ∙ fill-gone (h .0) (g .0) (g .2))
+      go (Some u) i (inl h) = (u, i, ap (λ (x : Order). isFiled (x .place)) h ∙ g .2)
+      go (Some u) i (inr h) = (u, i, ap (λ (x : Order). isFiled (x .place)) (h .1) ∙ fill-gone (h .0) (g .0) (g .2))
 
   elect-passed : (p : ℕ) (d : Day) → Counted 1 (numbers (d .roll)) → Passed d → Passed (elect p d)
   unfolding elect
@@ -249,7 +250,7 @@ module _ (n : ℕ) (s : Side) (l : ℕ) (ts : List TapeLine) where
     sleeps-deal c p os gs a h =
         let o : Order = h .0 in
         let m : 100 ≤ o .«open» = filed-open (o .place) (o .«open») (h .2) (find-all Good n os o (h .1) a .held) in
-        (fill 0 o, look-deal n c p os gs o (h .1) (ap isBook (h .2)), spot-open (o .«open» - 0) (o .place) (omega arith) ∙ h .2, h .3, h .4)
+        (o, look-deal n c p os gs o (h .1) (ap isBook (h .2)), h .2, h .3, h .4)
 
     -- one print more
     step-up : (m p q lo hi : ℕ) (t : Bool) → next n s l (whether t (Due (Some m)) Asleep) (Print m p q lo hi) ≡ whether (t || asGood s p l) (Due (Some m)) Asleep

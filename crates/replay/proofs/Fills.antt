@@ -29,7 +29,7 @@ use Rattle.replay.specs.Lists.{only, total, those, kept, any}
 use Rattle.replay.specs.Days.{Fill, Day, Rule, newDay}
 use Rattle.replay.specs.Rolls.{isFiled, look, found, alter, here, left, openOf, fresh, placeOf}
 use Rattle.replay.specs.Book.{isAt, isBetter, row, ahead, isContra}
-use Rattle.replay.specs.Moves.{lowOf, highOf, deal, part, gift, after, filledBy, taken, size, trade, leave, withdraw, rest, pause, elect, isElected, called, centre, admit, floored, resumed, setUp, to}
+use Rattle.replay.specs.Moves.{lowOf, highOf, deal, part, gift, after, filledBy, taken, size, trade, leave, withdraw, rest, pause, elect, isElected, called, centre, admit, floored, resumed, setUp, to, dealt}
 use Rattle.replay.specs.BookInOrder.{InShown, WithinLimit, sharesOf, OfPrint, FilledBy}
 use Rattle.replay.proofs.Sharing.{Gift}
 use Rattle.replay.proofs.Rolls.{Good, Held, isBetter-isAt, val, total-alter, only-add, only-zero, look-same, look-deal, same-side}
@@ -53,6 +53,11 @@ total-filledBy : (m q n p : ℕ) (g : Option Range) (fs : List Fill) → total (
 total-filledBy m zero n p g fs = omega (arith, only-zero (eqb n m))
 total-filledBy m (suc q) n p g fs = refl
 
+dealt-filled : (m : ℕ) (b t : Bool) (gs : List ℕ) (o : Order) → filledOf m (dealt b t gs o) ≡ filledOf m o + only (eqb (o .number) m) (part b t (o .«open») gs)
+dealt-filled m true t gs o = only-add (eqb (o .number) m) (o .filled) (o .«open»)
+dealt-filled m false true gs o = only-add (eqb (o .number) m) (o .filled) (gift gs)
+dealt-filled m false false gs o = omega (arith, only-zero (eqb (o .number) m))
+
 deal-fills : (m : ℕ) (c : Side) (p : ℕ) (g : Option Range) (os : List Order) (gs : List ℕ)
     → total (filledOf m) (deal c p os gs) ≡ total (filledOf m) os + total (sharesOf m) (taken c p g os gs)
 unfolding deal taken
@@ -60,7 +65,7 @@ deal-fills m c p g [] gs = refl
 deal-fills m c p g (o ∷ os) gs =
     let q : ℕ = part (isBetter c p o) (isAt c p o) (o .«open») gs in
     let gs′ : List ℕ = after (isAt c p o) gs in
-    let e : only (eqb (o .number) m) (o .filled + q) ≡ only (eqb (o .number) m) (o .filled) + only (eqb (o .number) m) q = only-add (eqb (o .number) m) (o .filled) q in
+    let e : filledOf m (dealt (isBetter c p o) (isAt c p o) gs o) ≡ filledOf m o + only (eqb (o .number) m) q = dealt-filled m (isBetter c p o) (isAt c p o) gs o in
     let f : total (sharesOf m) (filledBy q (o .number) p g (taken c p g os gs′)) ≡ only (eqb (o .number) m) q + total (sharesOf m) (taken c p g os gs′) = total-filledBy m q (o .number) p g (taken c p g os gs′) in
     omega (arith, e, f, deal-fills m c p g os gs′)
 
@@ -113,7 +118,8 @@ kept-deal c p os gs n o e = go (look n (deal c p os gs)) refl (subst (λ x. Deal
   where
     go : (y : Option Order) → look n (deal c p os gs) ≡ y → Dealt (Some o) y → (u : Order) × (look n (deal c p os gs) ≡ Some u) × Terms o u
     go None i h = absurd h
-    go (Some u) i h = (u, i, subst (Terms o) (sym (h .1)) (terms-fill (h .0) o))
+    go (Some u) i (inl h) = (u, i, subst (Terms o) (sym h) (terms-self o))
+    go (Some u) i (inr h) = (u, i, subst (Terms o) (sym (h .1)) (terms-fill (h .0) o))
 
 terms-called : (t : Bool) (o : Order) → Terms o (called t o)
 terms-called true o = record { side = refl; kind = refl; price = refl }
@@ -266,14 +272,14 @@ module _ (gifts : Rule) (lawful : LawfulRule gifts) where
       ready : Ready n (m .runner) c p os
       ready = trade-ready gifts lawful r p d m k
 
-      dealt : look n (deal c p os gs) ≡ Some (fill 0 (m .runner))
-      dealt = look-deal n c p os gs (m .runner) (m .is) (ap isBook (ready .waits))
+      there : look n (deal c p os gs) ≡ Some (m .runner)
+      there = look-deal n c p os gs (m .runner) (m .is) (ap isBook (ready .waits))
 
       mine : WithinLimit new (record { order = n; price = p; shares = q; low = lowOf (d .range); high = highOf (d .range) })
       mine = kept-limit os new kept-new (record { order = n; price = p; shares = q; low = lowOf (d .range); high = highOf (d .range) }) (m .runner, m .is, terms-limit r (m .runner) p (record { side = m .side; kind = m .kind; price = m .price }) (k .limit))
 
       runs : (j : ℕ) → total (filledOf j) new ≡ total (filledOf j) (deal c p os gs) + only (eqb n j) q
-      runs j = go j (fill 0 (m .runner)) dealt (total-alter (filledOf j) n (fill q) (deal c p os gs))
+      runs j = go j (m .runner) there (total-alter (filledOf j) n (fill q) (deal c p os gs))
         where
           go : (j : ℕ) (x : Order) → look n (deal c p os gs) ≡ Some x
               → total (filledOf j) new + val (filledOf j) (look n (deal c p os gs)) ≡ total (filledOf j) (deal c p os gs) + val (λ o. filledOf j (fill q o)) (look n (deal c p os gs))

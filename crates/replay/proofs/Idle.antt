@@ -28,11 +28,11 @@ use Rattle.replay.specs.Lists.{total, those, kept, any}
 use Rattle.replay.specs.Days.{Day, Phase, Trading, Closed, Rule, Call, Set, LoadLimit, LoadStop, Open, Enter, CancelOrder, FloorTrade, Resume, Close, Outcome, newDay}
 use Rattle.replay.specs.Rolls.{isFiled, isWaiting, look, found, alter, here, left, openOf, fresh, placeOf}
 use Rattle.replay.specs.Book.{isAt, isBetter, row, ahead, isContra}
-use Rattle.replay.specs.Moves.{deal, part, after, size, trade, leave, withdraw, rest, pause, elect, isElected, called, centre, without, lineWith, admit, setUp, to, floored, resumed}
+use Rattle.replay.specs.Moves.{deal, part, after, size, trade, leave, withdraw, rest, pause, elect, isElected, called, centre, without, lineWith, admit, setUp, to, floored, resumed, dealt}
 use Rattle.replay.specs.Runs.{work, busy, turns, turn, turnOf, startPlace, joinOf, join}
 use Rattle.replay.specs.Calls.{refusal, decided, columnOf, checks, became, perform, step, after-calls}
 use Rattle.replay.specs.SharesAddUp.{printOf, cancelOf}
-use Rattle.replay.proofs.Rolls.{Good, Held}
+use Rattle.replay.proofs.Rolls.{Good, Held, dealt-is, dealt-number}
 use Rattle.replay.proofs.Conservation.{total-push}
 use Rattle.replay.proofs.Moves.{Waits}
 use Rattle.replay.proofs.Prices.{Among, among-map, all-map}
@@ -56,21 +56,23 @@ look-alter n f (o ∷ os) k = go (eqb (o .number) n) refl (look-alter n f os k)
     go true e ih = ap (λ b. found b (f o) (look n os)) (ap (λ m. eqb m n) (k o) ∙ e)
     go false e ih = ap (λ b. found b o (look n (alter n f os))) e ∙ ih
 
--- an order of the dealt roll is the order before, filled by something
+-- an order of the dealt roll is the order before, as it was or filled by something
 unfoldable pub Dealt : Option Order → Option Order → Type 0
 Dealt None None = Unit {0}
 Dealt None (Some u) = ⊥
 Dealt (Some o) None = ⊥
-Dealt (Some o) (Some u) = (q : ℕ) × (u ≡ fill q o)
+Dealt (Some o) (Some u) = (u ≡ o) ⊎ ((q : ℕ) × (u ≡ fill q o))
 
 pub look-dealt : (n : ℕ) (c : Side) (p : ℕ) (os : List Order) (gs : List ℕ) → Dealt (look n os) (look n (deal c p os gs))
 unfolding look deal Dealt
 look-dealt n c p [] gs = tt
-look-dealt n c p (o ∷ os) gs = go (eqb (o .number) n) (look-dealt n c p os (after (isAt c p o) gs))
+look-dealt n c p (o ∷ os) gs =
+    subst (λ m. Dealt (found (eqb (o .number) n) o (look n os)) (found (eqb m n) (dealt (isBetter c p o) (isAt c p o) gs o) (look n (deal c p os (after (isAt c p o) gs))))) (sym (dealt-number (isBetter c p o) (isAt c p o) gs o))
+    (go (eqb (o .number) n) (look-dealt n c p os (after (isAt c p o) gs)))
   where
     go : (b : Bool) → Dealt (look n os) (look n (deal c p os (after (isAt c p o) gs)))
-        → Dealt (found b o (look n os)) (found b (fill (part (isBetter c p o) (isAt c p o) (o .«open») gs) o) (look n (deal c p os (after (isAt c p o) gs))))
-    go true ih = (part (isBetter c p o) (isAt c p o) (o .«open») gs, refl)
+        → Dealt (found b o (look n os)) (found b (dealt (isBetter c p o) (isAt c p o) gs o) (look n (deal c p os (after (isAt c p o) gs))))
+    go true ih = dealt-is (λ u. (u ≡ o) ⊎ ((q : ℕ) × (u ≡ fill q o))) (isBetter c p o) (isAt c p o) gs o (λ q. inr (q, refl)) (inl refl)
     go false ih = ih
 
 not-waiting : (w : Place) → isWaiting w ≡ false → w ≡ Line → ⊥
@@ -91,7 +93,8 @@ dealt-waits n c p os gs w = go (look n os) (look n (deal c p os gs)) (look-dealt
     go None None h w = w
     go None (Some u) h w = absurd h
     go (Some o) None h w = absurd h
-    go (Some o) (Some u) h w = fill-waits (h .0) o (ap (λ (x : Order). x .place) (sym (h .1)) ∙ w)
+    go (Some o) (Some u) (inl h) w = ap (λ (x : Order). x .place) (sym h) ∙ w
+    go (Some o) (Some u) (inr h) w = fill-waits (h .0) o (ap (λ (x : Order). x .place) (sym (h .1)) ∙ w)
 
 -- of another number
 pub look-past : (m n : ℕ) (f : Order → Order) (os : List Order) → ((o : Order) → f o .number ≡ o .number) → (m ≡ n → ⊥) → look m (alter n f os) ≡ look m os

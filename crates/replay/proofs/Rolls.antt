@@ -22,7 +22,7 @@ use Rattle.market.specs.Orders.{restsOn, isBook, whereWith, fill, cancel, put}
 use Rattle.replay.specs.Lists.{only, total, those, kept, any}
 use Rattle.replay.specs.Rolls.{look, found, alter, here, left, openOf}
 use Rattle.replay.specs.Book.{isBetter, isAt, isUpTo, ahead, depth, row}
-use Rattle.replay.specs.Moves.{gift, after, part, deal}
+use Rattle.replay.specs.Moves.{gift, after, part, deal, dealt}
 use Rattle.replay.specs.SharesAddUp.{filledOn}
 use Rattle.replay.proofs.Sharing.{LawfulShares, Gift}
 
@@ -185,6 +185,15 @@ total-whole t (o ∷ os) a = omega (arith, only-whole (t o) (o .«open») (a .0 
 
 -- sharing out ------------------------------------------------------------------------------------------------------------
 
+-- what a fill keeps, and what holds of an order that takes no part, holds of every order after a print
+pub dealt-is : (Q : Order → Type 0) (b t : Bool) (gs : List ℕ) (o : Order) → ((q : ℕ) → Q (fill q o)) → Q o → Q (dealt b t gs o)
+dealt-is Q true t gs o f i = f (o .«open»)
+dealt-is Q false true gs o f i = f (gift gs)
+dealt-is Q false false gs o f i = i
+
+pub dealt-number : (b t : Bool) (gs : List ℕ) (o : Order) → dealt b t gs o .number ≡ o .number
+dealt-number b t gs o = dealt-is (λ u. u .number ≡ o .number) b t gs o (λ q. refl) refl
+
 pub deal-good : (c : Side) (p : ℕ) (os : List Order) (gs : List ℕ) → Each Gift gs (row c p os) → All Good os → All Good (deal c p os gs)
 unfolding deal row
 deal-good c p [] gs z a = tt
@@ -192,12 +201,12 @@ deal-good c p (o ∷ os) gs z a = go (isBetter c p o) (isAt c p o) gs (isBetter-
   where
     go : (b t : Bool) (gs : List ℕ) → (b ≡ true → t ≡ true → ⊥) → Each Gift gs (map (λ o. o .«open») (kept t o (those (isAt c p) os)))
         → ((gs : List ℕ) → Each Gift gs (row c p os) → All Good (deal c p os gs))
-        → All Good (fill (part b t (o .«open») gs) o ∷ deal c p os (after t gs))
+        → All Good (dealt b t gs o ∷ deal c p os (after t gs))
     go true true gs x z ih = absurd (x refl refl)
     go true false gs x z ih = (good-fill (o .«open») o (a .0) (omega arith) (a .0 .whole), ih gs z)
     go false true [] x z ih = absurd z
     go false true (g ∷ gs) x z ih = (good-fill g o (a .0) (z .0 .1) (z .0 .0), ih gs (z .1))
-    go false false gs x z ih = (good-fill 0 o (a .0) (omega arith) refl, ih gs z)
+    go false false gs x z ih = (a .0, ih gs z)
 
 pub deal-filled : (s c : Side) (p : ℕ) (os : List Order) (gs : List ℕ) → Each Gift gs (row c p os)
     → total (filledOn s) (deal c p os gs) ≡ total (filledOn s) os + only (sameSide c s) (ahead c p os + total (λ n. n) gs)
@@ -212,7 +221,7 @@ deal-filled s c p (o ∷ os) gs z = go (isBetter c p o) (isAt c p o) gs (isBette
     go : (b t : Bool) (gs : List ℕ) → (b ≡ true → t ≡ true → ⊥) → (b ≡ true → sameSide (o .side) s ≡ sameSide c s) → (t ≡ true → sameSide (o .side) s ≡ sameSide c s)
         → Each Gift gs (map (λ o. o .«open») (kept t o (those (isAt c p) os)))
         → ((gs : List ℕ) → Each Gift gs (row c p os) → total (filledOn s) (deal c p os gs) ≡ total (filledOn s) os + only (sameSide c s) (ahead c p os + total (λ n. n) gs))
-        → only (sameSide (o .side) s) (o .filled + part b t (o .«open») gs) + total (filledOn s) (deal c p os (after t gs))
+        → filledOn s (dealt b t gs o) + total (filledOn s) (deal c p os (after t gs))
         ≡ (only (sameSide (o .side) s) (o .filled) + total (filledOn s) os) + only (sameSide c s) ((only b (o .«open») + ahead c p os) + total (λ n. n) gs)
     go true true gs x y w z ih = absurd (x refl refl)
     go true false gs x y w z ih = rw (y refl) (omega (arith, ih gs z, only-add (sameSide c s) (o .filled) (o .«open»), only-add₃ (sameSide c s) (o .«open») (ahead c p os) (total (λ n. n) gs)))
@@ -223,7 +232,9 @@ deal-filled s c p (o ∷ os) gs z = go (isBetter c p o) (isAt c p o) gs (isBette
 pub deal-struck : (c : Side) (p : ℕ) (os : List Order) (gs : List ℕ) → total (λ o. o .cancelled) (deal c p os gs) ≡ total (λ o. o .cancelled) os
 unfolding deal
 deal-struck c p [] gs = refl
-deal-struck c p (o ∷ os) gs = ap (λ n. o .cancelled + n) (deal-struck c p os (after (isAt c p o) gs))
+deal-struck c p (o ∷ os) gs =
+    ap (λ x. x + total (λ o. o .cancelled) (deal c p os (after (isAt c p o) gs))) (dealt-is (λ u. u .cancelled ≡ o .cancelled) (isBetter c p o) (isAt c p o) gs o (λ q. refl) refl)
+    ∙ ap (λ n. o .cancelled + n) (deal-struck c p os (after (isAt c p o) gs))
 
 pub length-deal : (c : Side) (p : ℕ) (os : List Order) (gs : List ℕ) → length (deal c p os gs) ≡ length os
 unfolding deal
@@ -266,19 +277,22 @@ look-other m n f (o ∷ os) k ne = go (eqb (o .number) n) refl (look-other m n f
         ap (λ b. found b (f o) (look m os)) (ap (λ x. eqb x m) (k o) ∙ e) ∙ sym (ap (λ b. found b o (look m os)) e)
     go false t ih = ap (λ x. found (eqb (o .number) m) o x) ih
 
-pub idle : (c : Side) (p n : ℕ) (gs : List ℕ) (o : Order) → isBook (o .place) ≡ false → part (isBetter c p o) (isAt c p o) n gs ≡ 0
-idle c p n gs o e = rw e refl
+-- who does not rest takes no part
+pub no-part : (c : Side) (p : ℕ) (gs : List ℕ) (o : Order) → isBook (o .place) ≡ false → dealt (isBetter c p o) (isAt c p o) gs o ≡ o
+no-part c p gs o e = rw e refl
 
 pub look-deal : (n : ℕ) (c : Side) (p : ℕ) (os : List Order) (gs : List ℕ) (r : Order) → look n os ≡ Some r → isBook (r .place) ≡ false
-    → look n (deal c p os gs) ≡ Some (fill 0 r)
+    → look n (deal c p os gs) ≡ Some r
 unfolding deal look
 look-deal n c p [] gs r e w = cc
-look-deal n c p (o ∷ os) gs r e w = go (eqb (o .number) n) e (λ e. look-deal n c p os (after (isAt c p o) gs) r e w)
+look-deal n c p (o ∷ os) gs r e w =
+    ap (λ m. found (eqb m n) (dealt (isBetter c p o) (isAt c p o) gs o) (look n (deal c p os (after (isAt c p o) gs)))) (dealt-number (isBetter c p o) (isAt c p o) gs o)
+    ∙ go (eqb (o .number) n) e (λ e. look-deal n c p os (after (isAt c p o) gs) r e w)
   where
-    go : (b : Bool) → found b o (look n os) ≡ Some r → (look n os ≡ Some r → look n (deal c p os (after (isAt c p o) gs)) ≡ Some (fill 0 r))
-        → found b (fill (part (isBetter c p o) (isAt c p o) (o .«open») gs) o) (look n (deal c p os (after (isAt c p o) gs))) ≡ Some (fill 0 r)
+    go : (b : Bool) → found b o (look n os) ≡ Some r → (look n os ≡ Some r → look n (deal c p os (after (isAt c p o) gs)) ≡ Some r)
+        → found b (dealt (isBetter c p o) (isAt c p o) gs o) (look n (deal c p os (after (isAt c p o) gs))) ≡ Some r
     go true e ih =
         let s : o ≡ r = cc in
         let w′ : isBook (o .place) ≡ false = ap (λ (x : Order). isBook (x .place)) s ∙ w in
-        ap (λ q. Some (fill q o)) (idle c p (o .«open») gs o w′) ∙ ap (λ x. Some (fill 0 x)) s
+        ap (λ (x : Order). Some x) (no-part c p gs o w′) ∙ ap (λ (x : Order). Some x) s
     go false e ih = ih e

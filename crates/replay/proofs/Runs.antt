@@ -29,7 +29,7 @@ use Rattle.replay.specs.Rolls.{isFiled, isWaiting, look, found, alter, here, l
 use Rattle.replay.specs.Book.{best, isAt, isBetter, ahead, row, depth, prices, isContra, isReached}
 use Rattle.replay.specs.Moves.{deal, part, after, size, trade, leave, withdraw, rest, pause, elect, isElected, called, centre, without}
 use Rattle.replay.specs.Runs.{only-if, allowed, firstPrice, cleanUp, or, ifLeft, nextPrice, printAt, residual, settleOf, settle, electAt, centreIf, run, runOf, turnOf, turn, turns, work, busy}
-use Rattle.replay.proofs.Rolls.{Good, Held, all-alter, look-same, look-other, look-deal}
+use Rattle.replay.proofs.Rolls.{Good, Held, dealt-is, dealt-number, all-alter, look-same, look-other, look-deal}
 use Rattle.replay.proofs.Conservation.{Books, Ready, trade-books, find-all}
 use Rattle.replay.proofs.Moves.{Waits, books-same, leave-books, pause-books, centre-books, withdraw-books, rest-books, elect-books}
 use Rattle.replay.proofs.Prices.{Among, meet, among-any, among-map, all-map, best-all, best-in, of-prices, in-prices, none-ahead, in-reach, at-reach, cleanUp-short}
@@ -79,7 +79,8 @@ numbers-alter n f k (o ∷ os) = go (eqb (o .number) n) (numbers-alter n f k os)
 numbers-deal : (c : Side) (p : ℕ) (os : List Order) (gs : List ℕ) → numbers (deal c p os gs) ≡ numbers os
 unfolding deal
 numbers-deal c p [] gs = refl
-numbers-deal c p (o ∷ os) gs = ap (λ x. o .number ∷ x) (numbers-deal c p os (after (isAt c p o) gs))
+numbers-deal c p (o ∷ os) gs =
+    ap (λ x. x ∷ numbers (deal c p os (after (isAt c p o) gs))) (dealt-number (isBetter c p o) (isAt c p o) gs o) ∙ ap (λ x. o .number ∷ x) (numbers-deal c p os (after (isAt c p o) gs))
 
 pub called-number : (t : Bool) (o : Order) → called t o .number ≡ o .number
 called-number true o = refl
@@ -113,8 +114,7 @@ waits-deal : (c : Side) (p : ℕ) (os : List Order) (gs : List ℕ) (m : ℕ) �
 waits-deal c p os gs m a w =
     let x : (r : Order) × (look m os ≡ Some r) × (r .place ≡ Line) = waiter os m w in
     let h : 100 ≤ x .0 .«open» = waiting-held (x .0 .place) (x .0 .«open») (x .2) (find-all Good m os (x .0) (x .1) a .held) in
-    waits-from (deal c p os gs) m (fill 0 (x .0)) (look-deal m c p os gs (x .0) (x .1) (ap isBook (x .2)))
-    (spot-open (x .0 .«open» - 0) (x .0 .place) (omega arith) ∙ x .2)
+    waits-from (deal c p os gs) m (x .0) (look-deal m c p os gs (x .0) (x .1) (ap isBook (x .2))) (x .2)
 
 filed-called : (p : ℕ) (o : Order) → o .place ≡ Line → called (isElected p o) o ≡ o
 filed-called p o e = ap (λ b. called (b && asGood (o .side) p (o .price)) o) (ap isFiled e)
@@ -227,9 +227,9 @@ module _ (gifts : Rule) (lawful : LawfulRule gifts) where
         books = trade-books gifts lawful n x c p d k (m .books);
         counted = subst (Counted 1) (sym (numbers-alter n (fill q) (fill-number q) (deal c p os gs) ∙ numbers-deal c p os gs)) (m .counted);
         line = all-map _ _ (d .line) (λ j h ne. waits-other n j (fill q) (deal c p os gs) (fill-number q) ne (waits-deal c p os gs j (m .books .orders) (h ne))) (m .line);
-        runner = fill q (fill 0 x);
-        is = look-same n (fill q) (deal c p os gs) (fill 0 x) (fill-number q) (look-deal n c p os gs x (m .is) (ap isBook w));
-        spotted = ap (λ y. whereWith ((x .«open» - 0) - q) (whereWith (x .«open» - 0) y)) w ∙ ap (whereWith ((x .«open» - 0) - q)) (spot-open (x .«open» - 0) Line (omega arith));
+        runner = fill q x;
+        is = look-same n (fill q) (deal c p os gs) x (fill-number q) (look-deal n c p os gs x (m .is) (ap isBook w));
+        spotted = ap (λ y. whereWith (x .«open» - q) y) w;
         side = m .side;
         kind = m .kind;
         price = m .price;
@@ -252,7 +252,7 @@ module _ (gifts : Rule) (lawful : LawfulRule gifts) where
   clear-deal : (c : Side) (f p : ℕ) (os : List Order) (gs : List ℕ) → Clear c f os → Clear c f (deal c p os gs)
   unfolding deal
   clear-deal c f p [] gs a = tt
-  clear-deal c f p (o ∷ os) gs a = (clear-fill c f (part (isBetter c p o) (isAt c p o) (o .«open») gs) o (a .0), clear-deal c f p os (after (isAt c p o) gs) (a .1))
+  clear-deal c f p (o ∷ os) gs a = (dealt-is (λ u. restsOn c u ≡ true → better c (u .price) f ≡ false) (isBetter c p o) (isAt c p o) gs o (λ q. clear-fill c f q o (a .0)) (a .0), clear-deal c f p os (after (isAt c p o) gs) (a .1))
 
   pub clear-trade : (c : Side) (f n p : ℕ) (d : Day) → Clear c f (d .roll) → Clear c f (trade gifts n c p d .roll)
   unfolding trade

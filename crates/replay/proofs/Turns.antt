@@ -31,6 +31,7 @@ use Rattle.replay.specs.Runs.{firstPrice, nextPrice, printAt, residual, settle
 use Rattle.replay.proofs.Prices.{Among, meet}
 use Rattle.replay.proofs.Moves.{Waits}
 use Rattle.replay.proofs.Runs.{Sound, look-number, turn-sound}
+use Rattle.replay.proofs.Rolls.{dealt-is}
 
 -- nobody waits unless paused: each turn either pauses or lessens what is waiting and filed --------------------------------------------------
 abbrev pub Idle : Day → Type 0
@@ -82,7 +83,7 @@ filed-fill q o = go (eqb (o .«open» - q) 0)
 pub filed-deal : (c : Side) (p : ℕ) (os : List Order) (gs : List ℕ) → filed (deal c p os gs) ≤ filed os
 unfolding deal
 filed-deal c p [] gs = omega arith
-filed-deal c p (o ∷ os) gs = omega (arith, filed-fill (part (isBetter c p o) (isAt c p o) (o .«open») gs) o, filed-deal c p os (after (isAt c p o) gs))
+filed-deal c p (o ∷ os) gs = omega (arith, dealt-is (λ u. only (isFiled (u .place)) 1 ≤ only (isFiled (o .place)) 1) (isBetter c p o) (isAt c p o) gs o (λ q. filed-fill q o) (omega arith), filed-deal c p os (after (isAt c p o) gs))
 
 pub filed-alter : (n : ℕ) (f : Order → Order) → ((o : Order) → only (isFiled (f o .place)) 1 ≤ only (isFiled (o .place)) 1) → (os : List Order) → filed (alter n f os) ≤ filed os
 unfolding alter

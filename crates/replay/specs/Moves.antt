@@ -46,10 +46,16 @@ part true a n gs = n
 part false true n gs = gift gs
 part false false n gs = 0
 
+-- the order after it; an order that takes no part stays as it is
+abbrev pub dealt : Bool → Bool → List ℕ → Order → Order
+dealt true a gs o = fill (o .«open») o
+dealt false true gs o = fill (gift gs) o
+dealt false false gs o = o
+
 -- the roll after a print at p, with the gifts of the orders of side c at p
 unfoldable pub deal : Side → ℕ → List Order → List ℕ → List Order
 deal c p [] gs = []
-deal c p (o ∷ os) gs = fill (part (isBetter c p o) (isAt c p o) (o .«open») gs) o ∷ deal c p os (after (isAt c p o) gs)
+deal c p (o ∷ os) gs = dealt (isBetter c p o) (isAt c p o) gs o ∷ deal c p os (after (isAt c p o) gs)
 
 -- the fills of a print; who gets nothing has none
 abbrev pub filledBy : ℕ → ℕ → ℕ → Option Range → List Fill → List Fill
