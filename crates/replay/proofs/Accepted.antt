@@ -27,8 +27,8 @@ use Rattle.replay.specs.Runs.{work, startPlace, joinOf, join}
 use Rattle.replay.specs.Calls.{refusal, decided, checks, became, perform, step, after-calls}
 use Rattle.replay.specs.Questions.{totals}
 use Rattle.replay.specs.SharesAddUp.{brings, ifPerformed, broughtIn, SharesAddUp, printOf, cancelOf}
+use Rattle.replay.proofs.Lists.{total-push}
 use Rattle.replay.proofs.Rolls.{Held, total-alter, dealt-is}
-use Rattle.replay.proofs.Conservation.{total-push}
 use Rattle.replay.proofs.Moves.{total-called}
 use Rattle.replay.proofs.Runs.{Sound, elect-sound}
 use Rattle.replay.proofs.Calls.{passed-enter, good-shares, start-held, admit-fresh, same-sound, step-sound, new-sound, conserved}

@@ -25,11 +25,12 @@ use Rattle.replay.specs.Rolls.{isFiled, look, alter, here, fresh}
 use Rattle.replay.specs.Book.{best, row, prices, isAt, isBetter, isContra}
 use Rattle.replay.specs.Moves.{size, trade, leave, withdraw, rest, pause, elect, centre, admit, floored, resumed, setUp, to, deal, part, after, isElected, called}
 use Rattle.replay.specs.Questions.{quote, quoteOf}
+use Rattle.replay.proofs.Lists.{all-push, all-map}
 use Rattle.replay.proofs.Runs.{Mid}
 use Rattle.replay.proofs.Calls.{put-place, fresh-limit}
 use Rattle.replay.proofs.Keeps.{Placed, Keeps}
 use Rattle.replay.proofs.Rolls.{all-alter, dealt-is}
-use Rattle.replay.proofs.Prices.{all-map, Among, meet, in-prices, best-in}
+use Rattle.replay.proofs.Prices.{Among, meet, in-prices, best-in}
 
 abbrev pub Below : Order → Order → Type 0
 Below b o = restsOn Buy b ≡ true → restsOn Sell o ≡ true → b .price < o .price
@@ -137,10 +138,6 @@ one-side o x y = absurd (go (o .side) (and-parts (isBook (o .place)) (sameSide (
 apart-push : (os : List Order) (x : Order) → All (λ o. Below x o × Below o x) os → Apart os → Apart (os ++ (x ∷ []))
 apart-push os x c a = all-push (λ b. All (Below b) (os ++ (x ∷ []))) os x (two os c a) (all-push (Below x) os x (all-map _ _ os (λ o h. h .0) c) (one-side x))
   where
-    all-push : {A : Type 0} (Q : A → Type 0) (xs : List A) (y : A) → All Q xs → Q y → All Q (xs ++ (y ∷ []))
-    all-push Q [] y a q = (q, tt)
-    all-push Q (x ∷ xs) y a q = (a .0, all-push Q xs y (a .1) q)
-
     two : (bs : List Order) → All (λ o. Below x o × Below o x) bs → All (λ b. All (Below b) os) bs → All (λ b. All (Below b) (os ++ (x ∷ []))) bs
     two [] c a = tt
     two (b ∷ bs) c a = (all-push (Below b) os x (a .0) (c .0 .1), two bs (c .1) (a .1))

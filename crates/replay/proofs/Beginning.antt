@@ -33,12 +33,12 @@ use Rattle.replay.specs.Runs.{firstPrice, cleanUp, ifLeft, nextPrice, printAt,
 use Rattle.replay.specs.Calls.{refusal, decided, handed, checks, became, perform, step, after-calls}
 use Rattle.replay.specs.RangeStays.{rangeFor, Shows, NoPrint, Rangeless, Begins, RangeBegins}
 use Rattle.replay.specs.SharesAddUp.{printOf, cancelOf}
-use Rattle.replay.proofs.Conservation.{total-push}
-use Rattle.replay.proofs.Runs.{Sound, Counted, numbers, elect-sound, Mid, Prints, First, first-is, first-prints, next-prints, trade-mid, clear-trade, trade-range, all-append}
+use Rattle.replay.proofs.Lists.{append-append, append-none, beyond-append, total-push, all-append}
+use Rattle.replay.proofs.Runs.{Sound, Counted, numbers, elect-sound, Mid, Prints, First, first-is, first-prints, next-prints, trade-mid, clear-trade, trade-range}
 use Rattle.replay.proofs.Calls.{Checked, passed-enter, checked-enter, checked-floor, same-sound, calls-sound, new-sound}
 use Rattle.replay.proofs.Keeps.{Placed, moves, run-keeps, works, joins}
 use Rattle.replay.proofs.Bounds.{Bounds, bounds-keeps, always-bounded, resting-price, resting-priced, range-some}
-use Rattle.replay.proofs.Ranges.{append-append, append-none, beyond-append, Shown, run-shown, withdraw-shown}
+use Rattle.replay.proofs.Ranges.{Shown, run-shown, withdraw-shown}
 
 shows-any : (lo hi : ℕ) (ls : List TapeLine) → All NoPrint ls → All (Shows lo hi) ls
 shows-any lo hi [] a = tt

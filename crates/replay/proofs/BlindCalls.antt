@@ -34,11 +34,11 @@ use Rattle.replay.specs.Calls.{Check, check, first-of, refusal, need, decided,
 use Rattle.replay.specs.Questions.{quote, quoteOf, inForce}
 use Rattle.replay.specs.SharesAddUp.{printOf, cancelOf}
 use Rattle.replay.specs.StopsUnseen.{SameLine, Named, Pair, same, loads, enters, Pairs, SameSeen, AllSeen, StopsUnseen}
+use Rattle.replay.proofs.Lists.{total-push}
 use Rattle.replay.proofs.Rolls.{Good, Held}
 use Rattle.replay.proofs.Moves.{Waits}
 use Rattle.replay.proofs.Runs.{Sound, elect-sound}
 use Rattle.replay.proofs.Calls.{admit-fresh, same-sound, good-shares, start-held, step-sound, passed-limit, passed-stop, passed-enter, new-sound}
-use Rattle.replay.proofs.Conservation.{total-push}
 use Rattle.replay.proofs.Blind.{Aside, Hidden, Alike, Rolls, Same, Twin, Quiet, Found, look-alike, blind-any, same-row, same-best, same-contra, zip-push, withdraw-twin, centre-twin, elect-twin, turns-twin, turns-back, quiet, all-front}
 use Rattle.market.specs.Bounds.{isShares}
 

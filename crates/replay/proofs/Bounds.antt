@@ -31,7 +31,7 @@ use Rattle.replay.specs.Book.{isAt, isBetter}
 use Rattle.replay.specs.Moves.{deal, part, after, size, trade, leave, withdraw, rest, pause, elect, isElected, called, centre, admit, floored, resumed, setUp, to}
 use Rattle.replay.specs.Calls.{after-calls}
 use Rattle.replay.proofs.Rolls.{all-alter, dealt-is}
-use Rattle.replay.proofs.Prices.{Among, meet, all-map}
+use Rattle.replay.proofs.Prices.{Among, meet}
 use Rattle.replay.proofs.Runs.{Mid, Prints}
 use Rattle.replay.proofs.Calls.{Checked}
 use Rattle.replay.proofs.Keeps.{Placed, Keeps, always}

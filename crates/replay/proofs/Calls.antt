@@ -32,10 +32,10 @@ use Rattle.replay.specs.Runs.{work, busy, startPlace, joinOf, join}
 use Rattle.replay.specs.Calls.{Check, check, first-of, refusal, need, decided, handed, orderChecks, fileFull, restingAt, checks, became, answered, perform, step, after-calls}
 use Rattle.replay.specs.Questions.{totals}
 use Rattle.replay.specs.SharesAddUp.{filledOn, Conserved, printOf, cancelOf}
+use Rattle.replay.proofs.Lists.{total-push, all-map}
 use Rattle.replay.proofs.Rolls.{Good, Held}
-use Rattle.replay.proofs.Conservation.{Books, total-push}
+use Rattle.replay.proofs.Conservation.{Books}
 use Rattle.replay.proofs.Moves.{Waits, books-same, withdraw-books, admit-books}
-use Rattle.replay.proofs.Prices.{all-map}
 use Rattle.replay.proofs.Runs.{Sound, Counted, numbers, elect-sound, work-sound, but, numbers-alter, centre-sound}
 use Rattle.market.specs.Bounds.{isPrice, isShares, isMember, isClass, isLastSale}
 

@@ -26,6 +26,7 @@ use Rattle.replay.specs.Rolls.{look, found, alter, left, openOf}
 use Rattle.replay.specs.Book.{isAt, isBetter, isUpTo, ahead, depth, row}
 use Rattle.replay.specs.Moves.{deal, size, trade}
 use Rattle.replay.specs.SharesAddUp.{printOf, cancelOf, filledOn}
+use Rattle.replay.proofs.Lists.{total-push}
 use Rattle.replay.proofs.Sharing.{LawfulShares, LawfulRow, Gift, gifts-fit, gifts-sum}
 use Rattle.replay.proofs.Rolls.{Good, Held, good-fill, val, total-alter, all-alter, only-add, only-zero, depth-split, row-lawful, row-short, row-some, total-whole, deal-good, deal-filled, deal-struck, length-deal, length-alter, look-same, look-deal}
 
@@ -34,10 +35,6 @@ pub record Books (d : Day) : Type 0 where
   pub few : length (d .roll) ≤ 512
   pub filled : (s : Side) → total (filledOn s) (d .roll) ≡ total printOf (d .tape)
   pub struck : total (λ o. o .cancelled) (d .roll) ≡ total cancelOf (d .tape)
-
-pub total-push : {A : Type 0} (f : A → ℕ) (xs : List A) (y : A) → total f (xs ++ (y ∷ [])) ≡ total f xs + f y
-total-push f [] y = omega arith
-total-push f (x ∷ xs) y = omega (arith, total-push f xs y)
 
 both-sides : (t s : Side) (q : ℕ) → only (sameSide (opposite t) s) q + only (sameSide t s) q ≡ q
 both-sides Buy Buy q = omega arith

@@ -34,11 +34,11 @@ use Rattle.replay.specs.Moves.{lowOf, highOf, deal, part, after, size, trade, 
 use Rattle.replay.specs.Runs.{firstPrice, nextPrice, printAt, residual, settleOf, settle, electAt, centreIf, run, cleanUp, ifLeft}
 use Rattle.replay.specs.Calls.{handed, after-calls}
 use Rattle.replay.specs.Elections.{ElectedByFirst, isRunner}
+use Rattle.replay.proofs.Lists.{append-append, append-none, beyond-append}
 use Rattle.replay.proofs.Course.{Course, Asleep, Due, Over, Amiss, whether, next, course, courseAt, fate}
 use Rattle.replay.proofs.Rolls.{Good, Held, look-deal}
 use Rattle.replay.proofs.Conservation.{find-all}
 use Rattle.replay.proofs.Moves.{Waits}
-use Rattle.replay.proofs.Prices.{all-map}
 use Rattle.replay.proofs.Runs.{Sound, Mid, Prints, Counted, numbers, fill-number, called-number, look-number, spot-open, elect-sound, settle-sound, mid-waits, trade-mid, trade-ready, first-prints, next-prints, First, first-is, Clear, clear-trade, trade-range}
 use Rattle.replay.proofs.Calls.{calls-sound, new-sound, put-number}
 use Rattle.replay.proofs.Keeps.{Placed, Keeps, Lasts, moves, run-keeps, lasts, calls-last}
@@ -46,18 +46,6 @@ use Rattle.replay.proofs.Idle.{upon, look-alter, look-past, Dealt, look-dealt}
 
 some-inj : {x y : Order} → Some x ≡ Some y → x ≡ y
 some-inj e = cc
-
-append-append : {A : Type 0} (xs ys zs : List A) → (xs ++ ys) ++ zs ≡ xs ++ (ys ++ zs)
-append-append [] ys zs = refl
-append-append (x ∷ xs) ys zs = ap (λ l. x ∷ l) (append-append xs ys zs)
-
-append-none : {A : Type 0} (xs : List A) → xs ++ [] ≡ xs
-append-none [] = refl
-append-none (x ∷ xs) = ap (λ l. x ∷ l) (append-none xs)
-
-beyond-append : {A : Type 0} (xs ys : List A) → beyond xs (xs ++ ys) ≡ ys
-beyond-append [] ys = refl
-beyond-append (x ∷ xs) ys = beyond-append xs ys
 
 -- what follows holds of the stop of number n, side s and price l; ts is the tape at the start
 module _ (n : ℕ) (s : Side) (l : ℕ) (ts : List TapeLine) where

@@ -31,12 +31,13 @@ use Rattle.replay.specs.Rolls.{isFiled, look, found, alter, here, left, openOf
 use Rattle.replay.specs.Book.{isAt, isBetter, row, ahead, isContra}
 use Rattle.replay.specs.Moves.{lowOf, highOf, deal, part, gift, after, filledBy, taken, size, trade, leave, withdraw, rest, pause, elect, isElected, called, centre, admit, floored, resumed, setUp, to, dealt}
 use Rattle.replay.specs.BookInOrder.{InShown, WithinLimit, sharesOf, OfPrint, FilledBy}
+use Rattle.replay.proofs.Lists.{append-append, append-none, total-append, total-push, all-append, all-map}
 use Rattle.replay.proofs.Sharing.{Gift}
 use Rattle.replay.proofs.Rolls.{Good, Held, isBetter-isAt, val, total-alter, only-add, only-zero, look-same, look-deal, same-side}
-use Rattle.replay.proofs.Conservation.{Ready, Fits, fits, zip, gs-sum, total-push}
+use Rattle.replay.proofs.Conservation.{Ready, Fits, fits, zip, gs-sum}
 use Rattle.replay.proofs.Moves.{Waits, total-called}
-use Rattle.replay.proofs.Prices.{Among, among-map, all-map}
-use Rattle.replay.proofs.Runs.{Sound, Mid, Prints, Counted, numbers, fill-number, called-number, all-append, trade-ready, look-number}
+use Rattle.replay.proofs.Prices.{Among, among-map}
+use Rattle.replay.proofs.Runs.{Sound, Mid, Prints, Counted, numbers, fill-number, called-number, trade-ready, look-number}
 use Rattle.replay.proofs.Calls.{put-number}
 use Rattle.replay.proofs.Keeps.{Placed, Keeps}
 use Rattle.replay.proofs.Idle.{upon, look-alter, look-past, Dealt, look-dealt, counted-look}
@@ -44,10 +45,6 @@ use Rattle.replay.proofs.Idle.{upon, look-alter, look-past, Dealt, look-dealt,
 -- sums ------------------------------------------------------------------------------------------------------------------------------------
 abbrev filledOf : ℕ → Order → ℕ
 filledOf m o = only (eqb (o .number) m) (o .filled)
-
-total-append : {A : Type 0} (f : A → ℕ) (xs ys : List A) → total f (xs ++ ys) ≡ total f xs + total f ys
-total-append f [] ys = omega arith
-total-append f (x ∷ xs) ys = omega (arith, total-append f xs ys)
 
 total-filledBy : (m q n p : ℕ) (g : Option Range) (fs : List Fill) → total (sharesOf m) (filledBy q n p g fs) ≡ only (eqb n m) q + total (sharesOf m) fs
 total-filledBy m zero n p g fs = omega (arith, only-zero (eqb n m))
@@ -358,10 +355,6 @@ taken-print c p g [] gs = tt
 taken-print c p g (o ∷ os) gs =
     all-filledBy (OfPrint p (lowOf g) (highOf g)) (part (isBetter c p o) (isAt c p o) (o .«open») gs) (o .number) p g _ (λ _. of-print g (o .number) p _) (taken-print c p g os (after (isAt c p o) gs))
 
-append-append : {A : Type 0} (xs ys zs : List A) → (xs ++ ys) ++ zs ≡ xs ++ (ys ++ zs)
-append-append [] ys zs = refl
-append-append (x ∷ xs) ys zs = ap (λ l. x ∷ l) (append-append xs ys zs)
-
 filled-append : (ls ks : List TapeLine) (fs gs : List Fill) → FilledBy ls fs → FilledBy ks gs → FilledBy (ls ++ ks) (fs ++ gs)
 filled-append [] ks fs gs h k = subst (λ xs. FilledBy ks (xs ++ gs)) (sym h) k
 filled-append (Print n p q lo hi ∷ ls) ks fs gs h k = (
@@ -375,10 +368,6 @@ filled-append (Print n p q lo hi ∷ ls) ks fs gs h k = (
 filled-append (Cancel n q ∷ ls) ks fs gs h k = filled-append ls ks fs gs h k
 filled-append (Elect n ∷ ls) ks fs gs h k = filled-append ls ks fs gs h k
 filled-append (Floor p q ∷ ls) ks fs gs h k = filled-append ls ks fs gs h k
-
-append-none : {A : Type 0} (xs : List A) → xs ++ [] ≡ xs
-append-none [] = refl
-append-none (x ∷ xs) = ap (λ l. x ∷ l) (append-none xs)
 
 filled-silent : (ls ks : List TapeLine) (fs : List Fill) → FilledBy ls fs → FilledBy ks [] → FilledBy (ls ++ ks) fs
 filled-silent ls ks fs h k = subst (FilledBy (ls ++ ks)) (append-none fs) (filled-append ls ks fs [] h k)

@@ -24,14 +24,7 @@ use Rattle.replay.specs.Book.{row, ahead, isContra}
 use Rattle.replay.specs.Moves.{lowOf, highOf, deal, filledBy, taken, size, trade, leave, withdraw, rest, pause, elect, isElected, centre, admit, setUp, to, floored, resumed}
 use Rattle.replay.specs.Runs.{firstPrice, cleanUp, ifLeft, nextPrice, printAt, residual, settleOf, settle, electAt, centreIf, run, runOf, turnOf, turn, turns, work, busy, startPlace, joinOf, join}
 use Rattle.replay.specs.Calls.{after-calls, answers, tapes, refusal, decided, handed, columnOf, checks, became, answered, perform, step}
-
-append-append : {A : Type 0} (xs ys zs : List A) → (xs ++ ys) ++ zs ≡ xs ++ (ys ++ zs)
-append-append [] ys zs = refl
-append-append (x ∷ xs) ys zs = ap (λ l. x ∷ l) (append-append xs ys zs)
-
-append-none : {A : Type 0} (xs : List A) → xs ++ [] ≡ xs
-append-none [] = refl
-append-none (x ∷ xs) = ap (λ l. x ∷ l) (append-none xs)
+use Rattle.replay.proofs.Lists.{append-append, append-none}
 
 beyond-both : {A : Type 0} (xs ys zs : List A) → beyond (xs ++ ys) (xs ++ zs) ≡ beyond ys zs
 beyond-both [] ys zs = refl

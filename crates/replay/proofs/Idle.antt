@@ -32,10 +32,10 @@ use Rattle.replay.specs.Moves.{deal, part, after, size, trade, leave, withdraw
 use Rattle.replay.specs.Runs.{work, busy, turns, turn, turnOf, startPlace, joinOf, join}
 use Rattle.replay.specs.Calls.{refusal, decided, columnOf, checks, became, perform, step, after-calls}
 use Rattle.replay.specs.SharesAddUp.{printOf, cancelOf}
+use Rattle.replay.proofs.Lists.{total-push, all-map}
 use Rattle.replay.proofs.Rolls.{Good, Held, dealt-is, dealt-number}
-use Rattle.replay.proofs.Conservation.{total-push}
 use Rattle.replay.proofs.Moves.{Waits}
-use Rattle.replay.proofs.Prices.{Among, among-map, all-map}
+use Rattle.replay.proofs.Prices.{Among, among-map}
 use Rattle.replay.proofs.Runs.{Sound, Mid, Prints, Counted, numbers, elect-sound, fill-number, called-number}
 use Rattle.replay.proofs.Calls.{decided-keeps, passed-enter, good-shares, start-held, admit-fresh, same-sound, step-sound, new-sound, put-number, put-place}
 use Rattle.replay.proofs.Keeps.{Placed, Keeps, always}

@@ -33,10 +33,10 @@ use Rattle.replay.specs.Moves.{trade, leave, withdraw, rest, pause, elect, cen
 use Rattle.replay.specs.Runs.{firstPrice, cleanUp, ifLeft, nextPrice, printAt, residual, settleOf, settle, electAt, centreIf, run, runOf, turnOf, turn, turns, work, busy, startPlace, joinOf, join}
 use Rattle.replay.specs.Calls.{refusal, decided, columnOf, checks, became, perform, step, after-calls}
 use Rattle.replay.specs.SharesAddUp.{printOf, cancelOf}
+use Rattle.replay.proofs.Lists.{total-push}
 use Rattle.replay.proofs.Rolls.{Good, Held}
-use Rattle.replay.proofs.Conservation.{find-all, total-push}
+use Rattle.replay.proofs.Conservation.{find-all}
 use Rattle.replay.proofs.Moves.{Waits}
-use Rattle.replay.proofs.Prices.{all-map}
 use Rattle.replay.proofs.Runs.{Sound, Mid, Prints, Counted, numbers, waiter, look-number, spot-open, waiting-held, First, first-is, Clear, clear-trade, trade-range, trade-mid, first-prints, next-prints, mid-waits, starts, settle-sound, elect-sound, electAt-sound, turn-sound}
 use Rattle.replay.proofs.Calls.{Checked, checked-limit, checked-stop, checked-enter, checked-set, checked-floor, decided-keeps, passed-limit, passed-stop, passed-enter, good-shares, start-held, admit-fresh, same-sound, step-sound, new-sound}
 use Rattle.market.specs.Bounds.{isPrice, isShares, isClass, isLastSale}

@@ -1,3 +1,4 @@
+mod Lists
 mod Sharing
 mod Rolls
 mod Conservation

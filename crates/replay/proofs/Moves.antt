@@ -24,8 +24,9 @@ use Rattle.replay.specs.Days.{Day}
 use Rattle.replay.specs.Rolls.{isFiled, look, found, alter, here, left, openOf, placeOf}
 use Rattle.replay.specs.Moves.{deal, leave, withdraw, rest, pause, elect, isElected, called, centre, admit, setUp, to, floored, resumed, without}
 use Rattle.replay.specs.SharesAddUp.{printOf, cancelOf, filledOn}
+use Rattle.replay.proofs.Lists.{total-push, length-push, length-map, all-push}
 use Rattle.replay.proofs.Rolls.{Good, Held, good-cancel, val, total-alter, all-alter, length-alter}
-use Rattle.replay.proofs.Conservation.{Books, total-push, find-all}
+use Rattle.replay.proofs.Conservation.{Books, find-all}
 
 abbrev pub Waits : List Order → ℕ → Type 0
 Waits os n = placeOf (look n os) ≡ Line
@@ -100,10 +101,6 @@ total-called g k p (o ∷ os) = go (isElected p o) (total-called g k p os)
     go true ih = omega (arith, k o)
     go false ih = omega arith
 
-length-map : {A B : Type 0} (f : A → B) (xs : List A) → length (map f xs) ≡ length xs
-length-map f [] = refl
-length-map f (x ∷ xs) = ap suc (length-map f xs)
-
 elections-weigh-nothing : (g : TapeLine → ℕ) → ((n : ℕ) → g (Elect n) ≡ 0) → (ls : List TapeLine) (ns : List ℕ) → total g (ls ++ map Elect ns) ≡ total g ls
 elections-weigh-nothing g k [] [] = refl
 elections-weigh-nothing g k [] (n ∷ ns) = omega (arith, k n, elections-weigh-nothing g k [] ns)
@@ -119,14 +116,6 @@ elect-books p d b =
       filled = λ s. total-called (filledOn s) (λ o. refl) p (d .roll) ∙ b .filled s ∙ sym (elections-weigh-nothing printOf (λ n. refl) (d .tape) ns);
       struck = total-called (λ o. o .cancelled) (λ o. refl) p (d .roll) ∙ b .struck ∙ sym (elections-weigh-nothing cancelOf (λ n. refl) (d .tape) ns);
     }
-
-all-push : {A : Type 0} (Q : A → Type 0) (xs : List A) (y : A) → All Q xs → Q y → All Q (xs ++ (y ∷ []))
-all-push Q [] y a q = (q, tt)
-all-push Q (x ∷ xs) y a q = (a .0, all-push Q xs y (a .1) q)
-
-length-push : {A : Type 0} (xs : List A) (y : A) → length (xs ++ (y ∷ [])) ≡ suc (length xs)
-length-push [] y = refl
-length-push (x ∷ xs) y = ap suc (length-push xs y)
 
 only-none : (s : Bool) → only s 0 ≡ 0
 only-none true = refl

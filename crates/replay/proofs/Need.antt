@@ -30,10 +30,10 @@ use Rattle.replay.specs.Moves.{lowOf, highOf, deal, size, trade, leave, withdr
 use Rattle.replay.specs.Runs.{firstPrice, nextPrice, printAt, residual, settleOf, settle, electAt, centreIf, run, runOf, turnOf, turn, turns, work, busy, startPlace, joinOf, join}
 use Rattle.replay.specs.Calls.{need, refusal, decided, handed, columnOf, checks, became, perform, step, after-calls}
 use Rattle.replay.specs.Lines.{wants, TapeSuffices}
-use Rattle.replay.proofs.Conservation.{total-push}
+use Rattle.replay.proofs.Lists.{total-push, length-push, length-append, length-map}
 use Rattle.replay.proofs.Runs.{look-number}
 use Rattle.replay.proofs.Calls.{decided-keeps, put-place}
-use Rattle.replay.proofs.Turns.{filed-called, filed-fill, filed-deal, filed-alter, length-append, length-map, first-out, elect-paused, print-line}
+use Rattle.replay.proofs.Turns.{filed-called, filed-fill, filed-deal, filed-alter, first-out, elect-paused, print-line}
 
 -- the lines on the tape, those and the filed stops, and those and all that may yet come: three for each order in line, four for each stop in the file
 abbrev count : Day → ℕ
@@ -46,10 +46,6 @@ abbrev bound : Day → ℕ
 bound d = count d + (3 * length (d .line) + 4 * filed (d .roll))
 
 -- one line more
-length-push : {A : Type 0} (xs : List A) (y : A) → length (xs ++ (y ∷ [])) ≡ suc (length xs)
-length-push [] y = refl
-length-push (x ∷ xs) y = ap suc (length-push xs y)
-
 elect-tally : (p : ℕ) (d : Day) → (tally (elect p d) ≡ tally d) × (bound (elect p d) ≡ bound d)
 unfolding elect
 elect-tally p d =

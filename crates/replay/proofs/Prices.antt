@@ -24,6 +24,7 @@ use Rattle.market.specs.Ranges.{inRange}
 use Rattle.replay.specs.Lists.{only, total, those, kept, any}
 use Rattle.replay.specs.Book.{best, pick, isBetter, isAt, isUpTo, ahead, depth, prices, isContra, isReached}
 use Rattle.replay.specs.Runs.{or}
+use Rattle.replay.proofs.Lists.{all-map}
 
 -- some element of the list has Q
 abbrev pub Among : {A : Type 0} → (A → Type 0) → List A → Type 0
@@ -48,10 +49,6 @@ pub among-map : {A : Type 0} (Q R : A → Type 0) (xs : List A) → ((x : A) →
 among-map Q R [] f m = m
 among-map Q R (x ∷ xs) f (inl q) = inl (f x q)
 among-map Q R (x ∷ xs) f (inr m) = inr (among-map Q R xs f m)
-
-pub all-map : {A : Type 0} (Q R : A → Type 0) (xs : List A) → ((x : A) → Q x → R x) → All Q xs → All R xs
-all-map Q R [] f a = tt
-all-map Q R (x ∷ xs) f a = (f x (a .0), all-map Q R xs f (a .1))
 
 -- better is an order ---------------------------------------------------------------------------------------------------------
 self : (s : Side) (x : ℕ) → better s x x ≡ false

@@ -26,10 +26,10 @@ use Rattle.replay.specs.Moves.{trade, leave, withdraw, rest, pause, elect, isE
 use Rattle.replay.specs.Runs.{busy}
 use Rattle.replay.specs.Calls.{need, Check, check, refusal, first-of, onlyIn, orderChecks, fileFull, restingAt, checks, step, after-calls}
 use Rattle.replay.specs.Lines.{freeLines, NeverShort}
+use Rattle.replay.proofs.Lists.{all-append, all-map}
 use Rattle.replay.proofs.Rolls.{val, total-alter}
 use Rattle.replay.proofs.Moves.{Waits}
-use Rattle.replay.proofs.Prices.{all-map}
-use Rattle.replay.proofs.Runs.{Sound, Counted, numbers, waiter, look-number, all-append}
+use Rattle.replay.proofs.Runs.{Sound, Counted, numbers, waiter, look-number}
 use Rattle.replay.proofs.Calls.{calls-sound, new-sound, put-number}
 use Rattle.replay.proofs.Keeps.{Keeps, always}
 use Rattle.replay.proofs.Idle.{look-past}

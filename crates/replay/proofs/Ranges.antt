@@ -30,24 +30,12 @@ use Rattle.replay.specs.Runs.{firstPrice, nextPrice, printAt, residual, settle
 use Rattle.replay.specs.Calls.{refusal, decided, handed, checks, became, perform, step, after-calls}
 use Rattle.replay.specs.SharesAddUp.{printOf, cancelOf}
 use Rattle.replay.specs.RangeStays.{rangeFor, Shows, RangeStays}
+use Rattle.replay.proofs.Lists.{append-append, append-none, beyond-append, total-push, all-append}
 use Rattle.replay.proofs.Rolls.{Held}
-use Rattle.replay.proofs.Conservation.{total-push}
-use Rattle.replay.proofs.Runs.{Sound, Mid, elect-sound, all-append}
+use Rattle.replay.proofs.Runs.{Sound, Mid, elect-sound}
 use Rattle.replay.proofs.Calls.{passed-enter, good-shares, start-held, admit-fresh, same-sound, calls-sound, new-sound}
 use Rattle.replay.proofs.Keeps.{works}
 use Rattle.market.specs.Bounds.{isShares}
-
-pub append-append : {A : Type 0} (xs ys zs : List A) → (xs ++ ys) ++ zs ≡ xs ++ (ys ++ zs)
-append-append [] ys zs = refl
-append-append (x ∷ xs) ys zs = ap (λ l. x ∷ l) (append-append xs ys zs)
-
-pub append-none : {A : Type 0} (xs : List A) → xs ++ [] ≡ xs
-append-none [] = refl
-append-none (x ∷ xs) = ap (λ l. x ∷ l) (append-none xs)
-
-pub beyond-append : {A : Type 0} (xs ys : List A) → beyond xs (xs ++ ys) ≡ ys
-beyond-append [] ys = refl
-beyond-append (x ∷ xs) ys = beyond-append xs ys
 
 module _ (g : Range) (ts : List TapeLine) where
   -- since ts every print shows the range

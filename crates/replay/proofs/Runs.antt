@@ -29,10 +29,11 @@ use Rattle.replay.specs.Rolls.{isFiled, isWaiting, look, found, alter, here, l
 use Rattle.replay.specs.Book.{best, isAt, isBetter, ahead, row, depth, prices, isContra, isReached}
 use Rattle.replay.specs.Moves.{deal, part, after, size, trade, leave, withdraw, rest, pause, elect, isElected, called, centre, without}
 use Rattle.replay.specs.Runs.{only-if, allowed, firstPrice, cleanUp, or, ifLeft, nextPrice, printAt, residual, settleOf, settle, electAt, centreIf, run, runOf, turnOf, turn, turns, work, busy}
+use Rattle.replay.proofs.Lists.{all-append, all-map}
 use Rattle.replay.proofs.Rolls.{Good, Held, dealt-is, dealt-number, all-alter, look-same, look-other, look-deal}
 use Rattle.replay.proofs.Conservation.{Books, Ready, trade-books, find-all}
 use Rattle.replay.proofs.Moves.{Waits, books-same, leave-books, pause-books, centre-books, withdraw-books, rest-books, elect-books}
-use Rattle.replay.proofs.Prices.{Among, meet, among-any, among-map, all-map, best-all, best-in, of-prices, in-prices, none-ahead, in-reach, at-reach, cleanUp-short}
+use Rattle.replay.proofs.Prices.{Among, meet, among-any, among-map, best-all, best-in, of-prices, in-prices, none-ahead, in-reach, at-reach, cleanUp-short}
 
 abbrev pub numbers : List Order → List ℕ
 numbers os = map (λ o. o .number) os
@@ -161,10 +162,6 @@ waits-new p k (o ∷ os) a = go (isElected p o) (all-map _ _ (numbers (those (is
     go true ih =
         (ap (λ t. placeOf (found t (put Line o) (look (o .number) new))) (eq-eqb (o .number) (o .number) refl), all-map _ _ (numbers (those (isElected p) os)) (λ m h. h true) ih)
     go false ih = all-map _ _ (numbers (those (isElected p) os)) (λ m h. h false) ih
-
-pub all-append : {A : Type 0} (Q : A → Type 0) (xs ys : List A) → All Q xs → All Q ys → All Q (xs ++ ys)
-all-append Q [] ys a b = b
-all-append Q (x ∷ xs) ys a b = (a .0, all-append Q xs ys (a .1) b)
 
 pub elect-sound : (p : ℕ) (d : Day) → Sound d → Sound (elect p d)
 unfolding elect

@@ -28,6 +28,7 @@ use Rattle.replay.specs.Rolls.{isFiled, look, found, alter, here, left, filed}
 use Rattle.replay.specs.Book.{row, ahead, isAt, isBetter, isContra}
 use Rattle.replay.specs.Moves.{deal, part, after, size, trade, leave, withdraw, rest, pause, elect, isElected, called, centre, without}
 use Rattle.replay.specs.Runs.{firstPrice, nextPrice, printAt, residual, settleOf, settle, electAt, centreIf, run, runOf, turnOf, turn, turns, work, busy}
+use Rattle.replay.proofs.Lists.{length-append, length-map}
 use Rattle.replay.proofs.Prices.{Among, meet}
 use Rattle.replay.proofs.Moves.{Waits}
 use Rattle.replay.proofs.Runs.{Sound, look-number, turn-sound}
@@ -48,14 +49,6 @@ without-less n (m ∷ ns) = go (eqb m n) (without-less n ns)
 
 pub without-first : (n : ℕ) (ns : List ℕ) → length (without n (n ∷ ns)) ≤ length ns
 without-first n ns = subst (λ b. length (kept (not b) n (without n ns)) ≤ length ns) (sym (eq-eqb n n refl)) (without-less n ns)
-
-pub length-append : {A : Type 0} (xs ys : List A) → length (xs ++ ys) ≡ length xs + length ys
-length-append [] ys = omega arith
-length-append (x ∷ xs) ys = omega (arith, length-append xs ys)
-
-pub length-map : {A B : Type 0} (f : A → B) (xs : List A) → length (map f xs) ≡ length xs
-length-map f [] = refl
-length-map f (x ∷ xs) = ap suc (length-map f xs)
 
 pub filed-called : (p : ℕ) (os : List Order) → length (those (isElected p) os) + filed (map (λ o. called (isElected p o) o) os) ≡ filed os
 filed-called p [] = refl
