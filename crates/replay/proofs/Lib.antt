@@ -20,9 +20,10 @@ mod Queue
 mod Course
 mod Elections
 mod Ranges
-mod Blind
-mod BlindCalls
+mod Unseen
+mod UnseenCalls
 mod Bounds
 mod Beginning
 mod History
 mod WorkedExamples
+mod FileOfRoll

@@ -7,6 +7,7 @@ pub mod Moves
 pub mod Runs
 pub mod Calls
 pub mod Questions
+pub mod StopFile
 pub mod SharesAddUp
 pub mod BookInOrder
 pub mod Elections

@@ -1,4 +1,4 @@
-use Rattle.replay.proofs.BlindCalls.{stops-unseen}
+use Rattle.replay.proofs.UnseenCalls.{stops-unseen}
 use Rattle.replay.proofs.unelected_stops_are_invisible.Needs as need
 
 pub returns : need.returns

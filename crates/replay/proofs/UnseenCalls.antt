@@ -39,7 +39,7 @@ use Rattle.replay.proofs.Rolls.{Good, Held}
 use Rattle.replay.proofs.Moves.{Waits}
 use Rattle.replay.proofs.Runs.{Sound, elect-sound}
 use Rattle.replay.proofs.Calls.{admit-fresh, same-sound, good-shares, start-held, step-sound, passed-limit, passed-stop, passed-enter, new-sound}
-use Rattle.replay.proofs.Blind.{Aside, Hidden, Alike, Rolls, Same, Twin, Quiet, Found, look-alike, blind-any, same-row, same-best, same-contra, zip-push, withdraw-twin, centre-twin, elect-twin, turns-twin, turns-back, quiet, all-front}
+use Rattle.replay.proofs.Unseen.{Aside, Hidden, Alike, Rolls, Same, Twin, Quiet, Found, look-alike, blind-any, same-row, same-best, same-contra, zip-push, withdraw-twin, centre-twin, elect-twin, turns-twin, turns-back, quiet, all-front}
 use Rattle.market.specs.Bounds.{isShares}
 
 module _ (N : ℕ → Bool) where
