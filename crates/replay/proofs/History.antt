@@ -1,8 +1,8 @@
 -- What is on the tape already changes nothing: a call on a day with a history does what it does on the day without, after that history.
 use mathlib.Core.Path.{_≡_, refl, sym, ap, subst, _∙_}
-use mathlib.Core.Bool.{Bool, true, false, cond, not, _&&_, _||_}
-use mathlib.Core.List.{List, [], _∷_, _++_, map}
-use Prim.Native.Nat.{ℕ, zero, suc, _+_, _-_, _*_, _%_, _≤_, _<_, min}
+use mathlib.Core.Bool.{Bool, true, false}
+use mathlib.Core.List.{List, [], _∷_, _++_}
+use Prim.Native.Nat.{ℕ, zero, suc, _+_, _-_}
 use lib.ListN.{length}
 use Rattle.std.specs.declared.option.Option.{Option}
 use Rattle.std.specs.declared.option.Option.the-variants.{Some, None}
@@ -10,20 +10,18 @@ use Rattle.market.specs.declared.words.Side.{Side}
 use Rattle.market.specs.declared.words.Kind.{Kind}
 use Rattle.market.specs.declared.words.Kind.the-variants.{Limit, Market, ImmediateOrCancel, Stop}
 use Rattle.market.specs.declared.words.Place.{Place}
-use Rattle.market.specs.declared.words.Place.the-variants.{Book, Line, StopFile, Nowhere}
-use Rattle.market.specs.declared.words.Column.{Column}
+use Rattle.market.specs.declared.words.Place.the-variants.{Line}
 use Rattle.market.specs.declared.words.Order.{Order}
 use Rattle.market.specs.declared.words.Range.{Range}
 use Rattle.market.specs.declared.words.TapeLine.{TapeLine}
-use Rattle.market.specs.declared.words.TapeLine.the-variants.{Print, Cancel, Elect, Floor}
 use Rattle.market.specs.Sides.{opposite}
-use Rattle.replay.specs.Lists.{those, any, beyond}
-use Rattle.replay.specs.Days.{Fill, Day, Phase, Trading, Closed, Rule, Call, Set, LoadLimit, LoadStop, Open, Enter, CancelOrder, FloorTrade, Resume, Close, Answer, Number, Lines, Entered, Outcome}
+use Rattle.replay.specs.Lists.{any, beyond}
+use Rattle.replay.specs.Days.{Fill, Day, Rule, Call, Set, LoadLimit, LoadStop, Open, Enter, CancelOrder, FloorTrade, Resume, Close, Answer, Lines, Entered}
 use Rattle.replay.specs.Rolls.{look, left, fresh}
-use Rattle.replay.specs.Book.{row, ahead, isContra}
-use Rattle.replay.specs.Moves.{lowOf, highOf, deal, filledBy, taken, size, trade, leave, withdraw, rest, pause, elect, isElected, centre, admit, setUp, to, floored, resumed}
-use Rattle.replay.specs.Runs.{firstPrice, cleanUp, ifLeft, nextPrice, printAt, residual, settleOf, settle, electAt, centreIf, run, runOf, turnOf, turn, turns, work, busy, startPlace, joinOf, join}
-use Rattle.replay.specs.Calls.{after-calls, answers, tapes, refusal, decided, handed, columnOf, checks, became, answered, perform, step}
+use Rattle.replay.specs.Book.{isContra}
+use Rattle.replay.specs.Moves.{trade, leave, withdraw, rest, pause, elect, centre, admit, setUp, to, floored, resumed}
+use Rattle.replay.specs.Runs.{firstPrice, cleanUp, nextPrice, printAt, residual, settleOf, settle, electAt, centreIf, run, runOf, turnOf, turn, turns, work, busy, startPlace, joinOf, join}
+use Rattle.replay.specs.Calls.{after-calls, answers, tapes, refusal, decided, handed, checks, became, answered, perform, step}
 use Rattle.replay.proofs.Lists.{append-append, append-none}
 
 beyond-both : {A : Type 0} (xs ys zs : List A) → beyond (xs ++ ys) (xs ++ zs) ≡ beyond ys zs
