@@ -15,5 +15,6 @@ pub mod Lines
 pub mod RangeStays
 pub mod StopsUnseen
 pub mod TwoRules
+pub mod History
 pub mod RollHolds
 pub mod Examples
