@@ -33,7 +33,8 @@ use Rattle.replay.proofs.Lists.{append-append, append-none, beyond-append, tot
 use Rattle.replay.proofs.Runs.{Sound, Counted, numbers, elect-sound, Mid, Prints, First, first-is, first-prints, next-prints, clear-trade, trade-range}
 use Rattle.replay.proofs.Calls.{Checked, passed-enter, checked-enter, checked-floor, same-sound, calls-sound, new-sound}
 use Rattle.replay.proofs.Keeps.{Placed, moves, run-keeps, works, joins}
-use Rattle.replay.proofs.Bounds.{Bounds, bounds-keeps, always-bounded, resting-price, resting-priced, range-some}
+use Rattle.replay.specs.Bounds.{Bounds}
+use Rattle.replay.proofs.Bounds.{bounds-keeps, always-bounded, resting-price, resting-priced, range-some}
 use Rattle.replay.proofs.Ranges.{Shown, run-shown, withdraw-shown}
 
 shows-any : (lo hi : ℕ) (ls : List TapeLine) → All NoPrint ls → All (Shows lo hi) ls

@@ -29,28 +29,12 @@ use Rattle.replay.specs.Rolls.{fresh, priceOf, isMarket}
 use Rattle.replay.specs.Book.{isAt, isBetter}
 use Rattle.replay.specs.Moves.{deal, after, size, trade, leave, withdraw, rest, pause, elect, isElected, called, centre, admit, floored, resumed, setUp, to}
 use Rattle.replay.specs.Calls.{after-calls}
+use Rattle.replay.specs.Bounds.{Fine, FineRange, Bounds, NumbersInBounds}
 use Rattle.replay.proofs.Rolls.{all-alter, dealt-is}
 use Rattle.replay.proofs.Prices.{Among, meet}
 use Rattle.replay.proofs.Calls.{Checked}
 use Rattle.replay.proofs.Keeps.{Keeps, always}
 use Rattle.market.specs.Bounds.{isPrice, isMember, isClass, isLastSale}
-
-pub record Fine (o : Order) : Type 0 where
-  pub price : o .price ≤ 100000
-  pub priced : isMarket (o .kind) ≡ false → 1 ≤ o .price
-  pub member : (1 ≤ o .member) × (o .member ≤ 255)
-  -- only limit orders rest
-  pub book : o .place ≡ Book → o .kind ≡ Limit
-
-abbrev pub FineRange : Option Range → Type 0
-FineRange None = Unit {0}
-FineRange (Some g) = (1 ≤ g .low) × (g .low ≤ g .high) × (g .high ≤ 100200)
-
-pub record Bounds (d : Day) : Type 0 where
-  pub orders : All Fine (d .roll)
-  pub last : d .last ≤ 100000
-  pub class : (1 ≤ d .class) × (d .class ≤ 3)
-  pub range : FineRange (d .range)
 
 -- orders -------------------------------------------------------------------------------------------------------------------------------------------
 fill-fine : (q : ℕ) (o : Order) → Fine o → Fine (fill q o)
@@ -217,3 +201,6 @@ new-bounds = record { orders = tt; last = omega arith; class = (omega arith, ome
 
 pub always-bounded : (gifts : Rule) → LawfulRule gifts → (room : ℕ) (cs : List Call) → Bounds (after-calls gifts room newDay cs)
 always-bounded gifts lawful room cs = always gifts lawful Bounds (bounds-keeps gifts lawful) new-bounds room cs
+
+pub numbers-in-bounds : NumbersInBounds
+numbers-in-bounds = always-bounded

@@ -1,6 +1,7 @@
 // The rules of a trading day stand in specs/ as definitions that compute. Each function here carries one law over every day,
 // every lawful share-out rule, every capacity of the stop file and every list of calls: without its proof the crate is refused.
 ghost use Rattle.replay.specs.BookInOrder.{BookInOrder};
+ghost use Rattle.replay.specs.Bounds.{NumbersInBounds};
 ghost use Rattle.replay.specs.Elections.{ElectedByFirst, StopsAreFiled};
 ghost use Rattle.replay.specs.Examples.{Examples};
 ghost use Rattle.replay.specs.History.{HistoryUnread};
@@ -105,6 +106,13 @@ pub fn roll_holds_512() -> u8
 // No rule looks at the tape: calls on a day without its history give the same answers and lines.
 pub fn history_is_not_read() -> u8
     ensures { λ _. ⌜ HistoryUnread ⌝ }
+{
+    0
+}
+
+// Prices, members, class, last sale and range stay within what the market takes.
+pub fn numbers_in_bounds() -> u8
+    ensures { λ _. ⌜ NumbersInBounds ⌝ }
 {
     0
 }
