@@ -1,8 +1,8 @@
 -- The accepted shares of the roll are those that the performed Load and Enter calls brought in.
-use mathlib.Core.Path.{_≡_, refl, sym, ap, subst, _∙_}
+use mathlib.Core.Path.{_≡_, refl, sym, ap, _∙_}
 use mathlib.Core.Bool.{Bool, true, false, not}
-use mathlib.Core.List.{List, [], _∷_, _++_, map}
-use Prim.Native.Nat.{ℕ, zero, suc, _+_, _-_}
+use mathlib.Core.List.{List, [], _∷_}
+use Prim.Native.Nat.{ℕ, suc, _+_, _-_}
 use native.Mathlib.Omega.{arith}
 use lib.ListN.{length}
 use lib.Dec.{leb, eqb}
@@ -12,7 +12,7 @@ use Rattle.market.specs.declared.words.Side.{Side}
 use Rattle.market.specs.declared.words.Kind.{Kind}
 use Rattle.market.specs.declared.words.Kind.the-variants.{Limit, Market, ImmediateOrCancel, Stop}
 use Rattle.market.specs.declared.words.Place.{Place}
-use Rattle.market.specs.declared.words.Place.the-variants.{Book, Line, StopFile, Nowhere}
+use Rattle.market.specs.declared.words.Place.the-variants.{Book, Line, StopFile}
 use Rattle.market.specs.declared.words.Order.{Order}
 use Rattle.market.specs.declared.words.TapeLine.the-variants.{Floor}
 use Rattle.market.specs.Sides.{opposite}
@@ -28,7 +28,7 @@ use Rattle.replay.specs.Calls.{refusal, decided, checks, became, perform, step
 use Rattle.replay.specs.Questions.{totals}
 use Rattle.replay.specs.SharesAddUp.{brings, ifPerformed, broughtIn, SharesAddUp, printOf, cancelOf}
 use Rattle.replay.proofs.Lists.{total-push}
-use Rattle.replay.proofs.Rolls.{Held, total-alter, dealt-is}
+use Rattle.replay.proofs.Rolls.{Held, dealt-is}
 use Rattle.replay.proofs.Moves.{total-called}
 use Rattle.replay.proofs.Runs.{Sound, elect-sound}
 use Rattle.replay.proofs.Calls.{passed-enter, good-shares, start-held, admit-fresh, same-sound, step-sound, new-sound, conserved}

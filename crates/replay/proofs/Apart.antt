@@ -1,10 +1,10 @@
 -- Bid below offer: which changes of the roll keep it.
 use mathlib.Core.Path.{_≡_, refl, sym, ap, subst, _∙_}
-use mathlib.Core.Bool.{Bool, true, false, cond, not, _&&_, _||_}
+use mathlib.Core.Bool.{Bool, true, false, cond, _&&_}
 use mathlib.Core.List.{List, [], _∷_, _++_, map}
-use Prim.Native.Nat.{ℕ, zero, suc, _+_, _-_, _≤_, _<_}
+use Prim.Native.Nat.{ℕ, _+_, _-_, _<_}
 use native.Mathlib.Omega.{arith}
-use lib.Dec.{leb, ltb, eqb}
+use lib.Dec.{leb, eqb}
 use Rattle.std.specs.declared.option.Option.{Option}
 use Rattle.std.specs.declared.option.Option.the-variants.{Some, None}
 use Rattle.std.proofs.shelf.Tests.{false≢true, and-parts, or-parts, leb-false}
@@ -17,16 +17,15 @@ use Rattle.market.specs.declared.words.Place.{Place}
 use Rattle.market.specs.declared.words.Place.the-variants.{Book, Line, StopFile, Nowhere}
 use Rattle.market.specs.declared.words.Order.{Order}
 use Rattle.market.specs.Sides.{opposite, sameSide, asGood}
-use Rattle.market.specs.Orders.{restsOn, isBook, whereWith, fill, cancel, put, inLimit, withinLimit}
+use Rattle.market.specs.Orders.{restsOn, isBook, fill, cancel, put, withinLimit}
 use Rattle.sharing.specs.Shares.{LawfulRule}
 use Rattle.replay.specs.Lists.{any, total}
 use Rattle.replay.specs.Days.{Day, Rule, newDay}
-use Rattle.replay.specs.Rolls.{isFiled, look, alter, here, fresh}
+use Rattle.replay.specs.Rolls.{look, alter, here, fresh}
 use Rattle.replay.specs.Book.{best, row, prices, isAt, isBetter, isContra}
-use Rattle.replay.specs.Moves.{size, trade, leave, withdraw, rest, pause, elect, centre, admit, floored, resumed, setUp, to, deal, part, after, isElected, called}
+use Rattle.replay.specs.Moves.{size, trade, leave, withdraw, rest, pause, elect, centre, admit, floored, resumed, setUp, to, deal, after, isElected, called}
 use Rattle.replay.specs.Questions.{quote, quoteOf}
 use Rattle.replay.proofs.Lists.{all-push, all-map}
-use Rattle.replay.proofs.Runs.{Mid}
 use Rattle.replay.proofs.Calls.{put-place, fresh-limit}
 use Rattle.replay.proofs.Keeps.{Placed, Keeps}
 use Rattle.replay.proofs.Rolls.{all-alter, dealt-is}

@@ -1,12 +1,10 @@
 -- Where no range is in force, the first run that prints sets it.
 use mathlib.Core.Path.{_≡_, refl, sym, ap, subst, _∙_}
-use mathlib.Core.Bool.{Bool, true, false, not}
+use mathlib.Core.Bool.{Bool, true, false}
 use mathlib.Core.List.{List, [], _∷_, _++_, map}
 use mathlib.Core.Logic.{_⊎_, inl, inr}
 use Prim.Native.Nat.{ℕ, zero, suc, _+_, _-_, _≤_, _<_}
 use native.Mathlib.Omega.{arith}
-use lib.ListN.{length}
-use lib.Dec.{leb}
 use Rattle.std.specs.declared.option.Option.{Option}
 use Rattle.std.specs.declared.option.Option.the-variants.{Some, None}
 use Rattle.std.specs.shelf.Lists.{All}
@@ -14,14 +12,12 @@ use Rattle.market.specs.declared.words.Side.{Side}
 use Rattle.market.specs.declared.words.Kind.{Kind}
 use Rattle.market.specs.declared.words.Kind.the-variants.{Limit, Market, ImmediateOrCancel, Stop}
 use Rattle.market.specs.declared.words.Place.{Place}
-use Rattle.market.specs.declared.words.Place.the-variants.{Book, Line, StopFile, Nowhere}
 use Rattle.market.specs.declared.words.Column.{Column}
 use Rattle.market.specs.declared.words.Order.{Order}
 use Rattle.market.specs.declared.words.Range.{Range}
 use Rattle.market.specs.declared.words.TapeLine.{TapeLine}
 use Rattle.market.specs.declared.words.TapeLine.the-variants.{Print, Cancel, Elect, Floor}
 use Rattle.market.specs.Sides.{opposite}
-use Rattle.market.specs.Bounds.{isShares, isPrice}
 use Rattle.market.specs.Ranges.{inRange, rangeAround}
 use Rattle.sharing.specs.Shares.{LawfulRule}
 use Rattle.replay.specs.Lists.{those, any, beyond}
@@ -29,15 +25,16 @@ use Rattle.replay.specs.Days.{Day, Rule, Call, Set, LoadLimit, LoadStop, Open,
 use Rattle.replay.specs.Rolls.{left, fresh}
 use Rattle.replay.specs.Book.{isContra}
 use Rattle.replay.specs.Moves.{lowOf, highOf, size, trade, leave, withdraw, rest, pause, elect, isElected, centre, admit, setUp, to, floored, resumed}
-use Rattle.replay.specs.Runs.{firstPrice, cleanUp, ifLeft, nextPrice, printAt, residual, settleOf, settle, electAt, centreIf, run, work, startPlace, joinOf, join}
+use Rattle.replay.specs.Runs.{firstPrice, cleanUp, ifLeft, nextPrice, printAt, residual, settleOf, settle, electAt, centreIf, run, work}
 use Rattle.replay.specs.Calls.{refusal, decided, handed, checks, became, perform, step, after-calls}
 use Rattle.replay.specs.RangeStays.{rangeFor, Shows, NoPrint, Rangeless, Begins, RangeBegins}
 use Rattle.replay.specs.SharesAddUp.{printOf, cancelOf}
 use Rattle.replay.proofs.Lists.{append-append, append-none, beyond-append, total-push, all-append}
-use Rattle.replay.proofs.Runs.{Sound, Counted, numbers, elect-sound, Mid, Prints, First, first-is, first-prints, next-prints, trade-mid, clear-trade, trade-range}
+use Rattle.replay.proofs.Runs.{Sound, Counted, numbers, elect-sound, Mid, Prints, First, first-is, first-prints, next-prints, clear-trade, trade-range}
 use Rattle.replay.proofs.Calls.{Checked, passed-enter, checked-enter, checked-floor, same-sound, calls-sound, new-sound}
 use Rattle.replay.proofs.Keeps.{Placed, moves, run-keeps, works, joins}
-use Rattle.replay.proofs.Bounds.{Bounds, bounds-keeps, always-bounded, resting-price, resting-priced, range-some}
+use Rattle.replay.specs.Bounds.{Bounds}
+use Rattle.replay.proofs.Bounds.{bounds-keeps, always-bounded, resting-price, resting-priced, range-some}
 use Rattle.replay.proofs.Ranges.{Shown, run-shown, withdraw-shown}
 
 shows-any : (lo hi : ℕ) (ls : List TapeLine) → All NoPrint ls → All (Shows lo hi) ls

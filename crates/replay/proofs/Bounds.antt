@@ -2,11 +2,10 @@
 use mathlib.Core.Path.{_≡_, refl, sym, ap, subst, _∙_}
 use mathlib.Core.Bool.{Bool, true, false, cond, not, _&&_, _||_}
 use mathlib.Core.List.{List, [], _∷_, _++_, map}
-use mathlib.Core.Logic.{_⊎_, inl, inr, ⊎-elim}
-use Prim.Native.Nat.{ℕ, zero, suc, _+_, _-_, _*_, _≤_, _<_}
+use mathlib.Core.Logic.{_⊎_, inl, inr}
+use Prim.Native.Nat.{ℕ, _+_, _-_, _≤_}
 use native.Mathlib.Omega.{arith}
-use lib.ListN.{length}
-use lib.Dec.{leb, ltb, eqb}
+use lib.Dec.{leb, eqb}
 use Rattle.std.specs.declared.option.Option.{Option}
 use Rattle.std.specs.declared.option.Option.the-variants.{Some, None}
 use Rattle.std.proofs.shelf.Tests.{false≢true, not-false, and-parts, and-from, eqb-true, leb-true, le-leb}
@@ -21,38 +20,21 @@ use Rattle.market.specs.declared.words.Column.the-variants.{Lower, Higher}
 use Rattle.market.specs.declared.words.Order.{Order}
 use Rattle.market.specs.declared.words.Range.{Range}
 use Rattle.market.specs.Sides.{opposite, sameSide}
-use Rattle.market.specs.Orders.{restsOn, whereWith, fill, cancel, put, isBook}
+use Rattle.market.specs.Orders.{restsOn, fill, cancel, put, isBook}
 use Rattle.market.specs.Ranges.{rangeAround, around, Band, bands, ofColumn, ofBand, valueIn}
 use Rattle.sharing.specs.Shares.{LawfulRule}
-use Rattle.replay.specs.Lists.{those, any}
+use Rattle.replay.specs.Lists.{any}
 use Rattle.replay.specs.Days.{Day, Rule, Call, newDay}
-use Rattle.replay.specs.Rolls.{look, alter, fresh, priceOf, isMarket}
+use Rattle.replay.specs.Rolls.{fresh, priceOf, isMarket}
 use Rattle.replay.specs.Book.{isAt, isBetter}
-use Rattle.replay.specs.Moves.{deal, part, after, size, trade, leave, withdraw, rest, pause, elect, isElected, called, centre, admit, floored, resumed, setUp, to}
+use Rattle.replay.specs.Moves.{deal, after, size, trade, leave, withdraw, rest, pause, elect, isElected, called, centre, admit, floored, resumed, setUp, to}
 use Rattle.replay.specs.Calls.{after-calls}
+use Rattle.replay.specs.Bounds.{Fine, FineRange, Bounds, NumbersInBounds}
 use Rattle.replay.proofs.Rolls.{all-alter, dealt-is}
 use Rattle.replay.proofs.Prices.{Among, meet}
-use Rattle.replay.proofs.Runs.{Mid, Prints}
 use Rattle.replay.proofs.Calls.{Checked}
-use Rattle.replay.proofs.Keeps.{Placed, Keeps, always}
+use Rattle.replay.proofs.Keeps.{Keeps, always}
 use Rattle.market.specs.Bounds.{isPrice, isMember, isClass, isLastSale}
-
-pub record Fine (o : Order) : Type 0 where
-  pub price : o .price ≤ 100000
-  pub priced : isMarket (o .kind) ≡ false → 1 ≤ o .price
-  pub member : (1 ≤ o .member) × (o .member ≤ 255)
-  -- only limit orders rest
-  pub book : o .place ≡ Book → o .kind ≡ Limit
-
-abbrev pub FineRange : Option Range → Type 0
-FineRange None = Unit {0}
-FineRange (Some g) = (1 ≤ g .low) × (g .low ≤ g .high) × (g .high ≤ 100200)
-
-pub record Bounds (d : Day) : Type 0 where
-  pub orders : All Fine (d .roll)
-  pub last : d .last ≤ 100000
-  pub class : (1 ≤ d .class) × (d .class ≤ 3)
-  pub range : FineRange (d .range)
 
 -- orders -------------------------------------------------------------------------------------------------------------------------------------------
 fill-fine : (q : ℕ) (o : Order) → Fine o → Fine (fill q o)
@@ -219,3 +201,6 @@ new-bounds = record { orders = tt; last = omega arith; class = (omega arith, ome
 
 pub always-bounded : (gifts : Rule) → LawfulRule gifts → (room : ℕ) (cs : List Call) → Bounds (after-calls gifts room newDay cs)
 always-bounded gifts lawful room cs = always gifts lawful Bounds (bounds-keeps gifts lawful) new-bounds room cs
+
+pub numbers-in-bounds : NumbersInBounds
+numbers-in-bounds = always-bounded

@@ -1,15 +1,14 @@
 -- Every call keeps the day sound; so shares are conserved over every list of calls.
 use mathlib.Core.Path.{_≡_, refl, sym, ap, subst, _∙_}
-use mathlib.Core.Bool.{Bool, true, false, cond, not, _&&_, _||_}
-use mathlib.Core.List.{List, [], _∷_, _++_, map}
-use mathlib.Core.Logic.{_⊎_, inl, inr, ⊎-elim}
-use Prim.Native.Nat.{ℕ, zero, suc, _+_, _-_, _*_, _%_, _≤_, _<_, min}
+use mathlib.Core.Bool.{Bool, true, false, not, _&&_}
+use mathlib.Core.List.{List, [], _∷_, _++_}
+use Prim.Native.Nat.{ℕ, suc, _+_, _-_, _%_, _≤_, _<_}
 use native.Mathlib.Omega.{arith}
 use lib.ListN.{length}
-use lib.Dec.{leb, ltb, eqb}
+use lib.Dec.{leb, eqb}
 use Rattle.std.specs.declared.option.Option.{Option}
 use Rattle.std.specs.declared.option.Option.the-variants.{Some, None}
-use Rattle.std.proofs.shelf.Tests.{false≢true, or-parts, and-parts, leb-true, not-false, eq-eqb, ne-eqb, eqb-true, eqb-false, ltb-false, leb-false}
+use Rattle.std.proofs.shelf.Tests.{and-parts, leb-true, not-false, eq-eqb, ne-eqb, eqb-true, leb-false}
 use Rattle.std.specs.shelf.Lists.{All}
 use Rattle.market.specs.declared.words.Side.{Side}
 use Rattle.market.specs.declared.words.Side.the-variants.{Buy, Sell}
@@ -18,23 +17,21 @@ use Rattle.market.specs.declared.words.Kind.the-variants.{Limit, Market, Immedi
 use Rattle.market.specs.declared.words.Place.{Place}
 use Rattle.market.specs.declared.words.Place.the-variants.{Book, Line, StopFile, Nowhere}
 use Rattle.market.specs.declared.words.Order.{Order}
-use Rattle.market.specs.declared.words.TapeLine.{TapeLine}
-use Rattle.market.specs.declared.words.TapeLine.the-variants.{Print, Cancel, Elect, Floor}
+use Rattle.market.specs.declared.words.TapeLine.the-variants.{Floor}
 use Rattle.market.specs.Sides.{sameSide}
-use Rattle.market.specs.Orders.{restsOn, cancel, put}
+use Rattle.market.specs.Orders.{cancel, put}
 use Rattle.sharing.specs.Shares.{LawfulRule}
 use Rattle.replay.specs.Lists.{total, only, any}
-use Rattle.replay.specs.Days.{Day, Phase, Loading, Trading, Closed, Rule, Call, Set, LoadLimit, LoadStop, Open, Enter, CancelOrder, FloorTrade, Resume, Close, Answer, Outcome, newDay}
-use Rattle.replay.specs.Rolls.{look, found, alter, isStop, left, isMarket, priceOf, fresh, filed, memberOf, absent, openOf, placeOf}
+use Rattle.replay.specs.Days.{Day, Rule, Call, Set, LoadLimit, LoadStop, Open, Enter, CancelOrder, FloorTrade, Resume, Close, Outcome, newDay}
+use Rattle.replay.specs.Rolls.{look, found, isMarket, fresh, placeOf}
 use Rattle.replay.specs.Book.{isContra}
-use Rattle.replay.specs.Moves.{withdraw, elect, centre, lineWith, admit, setUp, to, floored, resumed}
-use Rattle.replay.specs.Runs.{work, busy, startPlace, joinOf, join}
-use Rattle.replay.specs.Calls.{Check, check, first-of, refusal, need, decided, handed, orderChecks, fileFull, restingAt, checks, became, answered, perform, step, after-calls}
+use Rattle.replay.specs.Moves.{withdraw, lineWith, admit, setUp, to, floored, resumed}
+use Rattle.replay.specs.Runs.{startPlace, joinOf, join}
+use Rattle.replay.specs.Calls.{Check, first-of, refusal, decided, checks, became, perform, step, after-calls}
 use Rattle.replay.specs.Questions.{totals}
 use Rattle.replay.specs.SharesAddUp.{filledOn, Conserved, printOf, cancelOf}
 use Rattle.replay.proofs.Lists.{total-push, all-map}
 use Rattle.replay.proofs.Rolls.{Good, Held}
-use Rattle.replay.proofs.Conservation.{Books}
 use Rattle.replay.proofs.Moves.{Waits, books-same, withdraw-books, admit-books}
 use Rattle.replay.proofs.Runs.{Sound, Counted, numbers, elect-sound, work-sound, but, numbers-alter, centre-sound}
 use Rattle.market.specs.Bounds.{isPrice, isShares, isMember, isClass, isLastSale}

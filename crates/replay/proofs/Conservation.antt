@@ -1,34 +1,29 @@
 -- Shares are conserved.
 use mathlib.Core.Path.{_≡_, refl, sym, ap, subst, _∙_}
-use mathlib.Core.Bool.{Bool, true, false, cond, not, _&&_, _||_}
-use mathlib.Core.List.{List, [], _∷_, _++_, map}
-use mathlib.Core.Logic.{_⊎_, inl, inr}
-use Prim.Native.Nat.{ℕ, zero, suc, _+_, _-_, _*_, _%_, _≤_, _<_, min}
+use mathlib.Core.Bool.{Bool, true, false}
+use mathlib.Core.List.{List, [], _∷_}
+use Prim.Native.Nat.{ℕ, _+_, _-_, _%_, _≤_, _<_, min}
 use native.Mathlib.Omega.{arith}
 use lib.ListN.{length}
-use lib.Dec.{leb, ltb, eqb}
-use Rattle.std.specs.declared.option.Option.{Option}
+use lib.Dec.{eqb}
 use Rattle.std.specs.declared.option.Option.the-variants.{Some, None}
 use Rattle.std.specs.shelf.Lists.{All, Each}
 use Rattle.market.specs.declared.words.Side.{Side}
 use Rattle.market.specs.declared.words.Side.the-variants.{Buy, Sell}
-use Rattle.market.specs.declared.words.Place.{Place}
-use Rattle.market.specs.declared.words.Place.the-variants.{Book, Line, StopFile, Nowhere}
+use Rattle.market.specs.declared.words.Place.the-variants.{Line}
 use Rattle.market.specs.declared.words.Order.{Order}
-use Rattle.market.specs.declared.words.TapeLine.{TapeLine}
-use Rattle.market.specs.declared.words.TapeLine.the-variants.{Print, Cancel, Elect, Floor}
 use Rattle.market.specs.Sides.{opposite, sameSide}
-use Rattle.market.specs.Orders.{isBook, fill, cancel, put}
+use Rattle.market.specs.Orders.{isBook, fill}
 use Rattle.sharing.specs.Shares.{LawfulRule}
 use Rattle.replay.specs.Lists.{only, total, any}
 use Rattle.replay.specs.Days.{Day, Rule}
 use Rattle.replay.specs.Rolls.{look, found, alter, left, openOf}
-use Rattle.replay.specs.Book.{isAt, isBetter, isUpTo, ahead, depth, row}
+use Rattle.replay.specs.Book.{isAt, isBetter, ahead, depth, row}
 use Rattle.replay.specs.Moves.{deal, size, trade}
 use Rattle.replay.specs.SharesAddUp.{printOf, cancelOf, filledOn}
 use Rattle.replay.proofs.Lists.{total-push}
 use Rattle.replay.proofs.Sharing.{LawfulShares, LawfulRow, Gift, gifts-fit, gifts-sum}
-use Rattle.replay.proofs.Rolls.{Good, Held, good-fill, val, total-alter, all-alter, only-add, only-zero, depth-split, row-lawful, row-short, row-some, total-whole, deal-good, deal-filled, deal-struck, length-deal, length-alter, look-same, look-deal}
+use Rattle.replay.proofs.Rolls.{Good, good-fill, val, total-alter, all-alter, only-add, depth-split, row-lawful, row-short, row-some, total-whole, deal-good, deal-filled, deal-struck, length-deal, length-alter, look-deal}
 
 pub record Books (d : Day) : Type 0 where
   pub orders : All Good (d .roll)

@@ -1,14 +1,14 @@
 -- The course of a stop, line by line, and what it tells of the lines.
-use mathlib.Core.Path.{_≡_, refl, sym, ap, subst, _∙_}
-use mathlib.Core.Bool.{Bool, true, false, not, _&&_, _||_}
-use mathlib.Core.List.{List, [], _∷_, _++_, map}
+use mathlib.Core.Path.{_≡_, refl, sym, ap, _∙_}
+use mathlib.Core.Bool.{Bool, true, false}
+use mathlib.Core.List.{List, [], _∷_, _++_}
 use mathlib.Core.Logic.{_⊎_, inl, inr, ⊎-elim}
-use Prim.Native.Nat.{ℕ, zero, suc, _+_, _-_, _<_}
+use Prim.Native.Nat.{ℕ, _+_, _-_, _<_}
 use native.Mathlib.Omega.{arith}
 use lib.Dec.{eqb}
 use Rattle.std.specs.declared.option.Option.{Option}
 use Rattle.std.specs.declared.option.Option.the-variants.{Some, None}
-use Rattle.std.proofs.shelf.Tests.{false≢true, eqb-true}
+use Rattle.std.proofs.shelf.Tests.{eqb-true}
 use Rattle.std.specs.shelf.Lists.{All}
 use Rattle.market.specs.declared.words.Side.{Side}
 use Rattle.market.specs.declared.words.Place.{Place}
@@ -16,7 +16,7 @@ use Rattle.market.specs.declared.words.Place.the-variants.{Book, Line, StopFile
 use Rattle.market.specs.declared.words.TapeLine.{TapeLine}
 use Rattle.market.specs.declared.words.TapeLine.the-variants.{Print, Cancel, Elect, Floor}
 use Rattle.market.specs.Sides.{asGood}
-use Rattle.replay.specs.Elections.{reaches, elects, cancels, runBy, isRunner, ofRun, Untouched, Withdrawn, Elected, Fate}
+use Rattle.replay.specs.Elections.{reaches, elects, runBy, isRunner, ofRun, Untouched, Withdrawn, Elected, Fate}
 
 -- A stop sleeps in the file. The first P or F line that reaches its price makes it due by that run, or by no run.
 -- While it is due there come only lines of that run, and elections, and its own E line. Its X line takes it from the file unelected.

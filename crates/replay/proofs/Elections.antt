@@ -1,47 +1,43 @@
 -- A filed stop is elected by the first print or floor trade that reaches its price, before the next run, and by nothing else.
 use mathlib.Core.Path.{_≡_, refl, sym, ap, subst, _∙_}
-use mathlib.Core.Bool.{Bool, true, false, cond, not, _&&_, _||_}
+use mathlib.Core.Bool.{Bool, true, false, cond, _&&_, _||_}
 use mathlib.Core.List.{List, [], _∷_, _++_, map}
 use mathlib.Core.Logic.{_⊎_, inl, inr, ⊎-elim}
-use Prim.Native.Nat.{ℕ, zero, suc, _+_, _-_, _*_, _%_, _≤_, _<_, min}
+use Prim.Native.Nat.{ℕ, zero, suc, _+_, _-_, _≤_, _<_}
 use native.Mathlib.Omega.{arith}
-use lib.ListN.{length}
-use lib.Dec.{leb, ltb, eqb}
+use lib.Dec.{eqb}
 use Rattle.std.specs.declared.option.Option.{Option}
 use Rattle.std.specs.declared.option.Option.the-variants.{Some, None}
-use Rattle.std.proofs.shelf.Tests.{false≢true, and-parts, and-from, eq-eqb, ne-eqb, eqb-true, eqb-false, cases-eq}
+use Rattle.std.proofs.shelf.Tests.{false≢true, eq-eqb, ne-eqb, eqb-true, eqb-false, cases-eq}
 use Rattle.std.specs.shelf.Lists.{All}
 use Rattle.market.specs.declared.words.Side.{Side}
-use Rattle.market.specs.declared.words.Side.the-variants.{Buy, Sell}
 use Rattle.market.specs.declared.words.Kind.{Kind}
 use Rattle.market.specs.declared.words.Kind.the-variants.{Limit, Market, ImmediateOrCancel, Stop}
 use Rattle.market.specs.declared.words.Place.{Place}
 use Rattle.market.specs.declared.words.Place.the-variants.{Book, Line, StopFile, Nowhere}
-use Rattle.market.specs.declared.words.Column.{Column}
 use Rattle.market.specs.declared.words.Order.{Order}
 use Rattle.market.specs.declared.words.Range.{Range}
 use Rattle.market.specs.declared.words.TapeLine.{TapeLine}
 use Rattle.market.specs.declared.words.TapeLine.the-variants.{Print, Cancel, Elect, Floor}
-use Rattle.market.specs.Sides.{opposite, sameSide, asGood}
-use Rattle.market.specs.Orders.{isBook, whereWith, fill, cancel, put, inLimit}
+use Rattle.market.specs.Sides.{opposite, asGood}
+use Rattle.market.specs.Orders.{isBook, fill, cancel, put}
 use Rattle.market.specs.Ranges.{inRange}
 use Rattle.sharing.specs.Shares.{LawfulRule}
-use Rattle.replay.specs.Lists.{total, those, kept, any, beyond}
-use Rattle.replay.specs.Days.{Day, Phase, Rule, Call, newDay}
-use Rattle.replay.specs.Rolls.{isFiled, look, found, alter, here, left, openOf, fresh, placeOf}
-use Rattle.replay.specs.Book.{isAt, isBetter, row, ahead, isContra}
-use Rattle.replay.specs.Moves.{lowOf, highOf, deal, part, after, size, trade, leave, withdraw, rest, pause, elect, isElected, called, centre, admit, floored, resumed, setUp, to}
+use Rattle.replay.specs.Lists.{those, kept, any, beyond}
+use Rattle.replay.specs.Days.{Day, Rule, newDay}
+use Rattle.replay.specs.Rolls.{isFiled, look, found, alter, left, fresh, placeOf}
+use Rattle.replay.specs.Book.{isContra}
+use Rattle.replay.specs.Moves.{lowOf, highOf, deal, size, trade, leave, withdraw, rest, pause, elect, isElected, called, centre, admit, floored, resumed, setUp, to}
 use Rattle.replay.specs.Runs.{firstPrice, nextPrice, printAt, residual, settleOf, settle, electAt, centreIf, run, cleanUp, ifLeft}
 use Rattle.replay.specs.Calls.{handed, after-calls}
-use Rattle.replay.specs.Elections.{ElectedByFirst, isRunner}
+use Rattle.replay.specs.Elections.{ElectedByFirst}
 use Rattle.replay.proofs.Lists.{append-append, append-none, beyond-append}
 use Rattle.replay.proofs.Course.{Course, Asleep, Due, Over, Amiss, whether, next, course, courseAt, fate}
 use Rattle.replay.proofs.Rolls.{Good, Held, look-deal}
 use Rattle.replay.proofs.Conservation.{find-all}
-use Rattle.replay.proofs.Moves.{Waits}
-use Rattle.replay.proofs.Runs.{Sound, Mid, Prints, Counted, numbers, fill-number, called-number, look-number, spot-open, elect-sound, settle-sound, mid-waits, trade-mid, trade-ready, first-prints, next-prints, First, first-is, Clear, clear-trade, trade-range}
+use Rattle.replay.proofs.Runs.{Sound, Mid, Counted, numbers, fill-number, called-number, elect-sound, settle-sound, trade-mid, first-prints, next-prints, First, first-is, Clear, clear-trade, trade-range}
 use Rattle.replay.proofs.Calls.{calls-sound, new-sound, put-number}
-use Rattle.replay.proofs.Keeps.{Placed, Keeps, Lasts, moves, run-keeps, lasts, calls-last}
+use Rattle.replay.proofs.Keeps.{Keeps, Lasts, moves, run-keeps, calls-last}
 use Rattle.replay.proofs.Idle.{upon, look-alter, look-past, Dealt, look-dealt}
 
 some-inj : {x y : Order} → Some x ≡ Some y → x ≡ y

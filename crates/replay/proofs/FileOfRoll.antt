@@ -1,24 +1,21 @@
 -- The stop file of a roll: what the moves do to it.
-use mathlib.Core.Path.{_≡_, refl, sym, ap, subst, _∙_}
-use mathlib.Core.Bool.{Bool, true, false, cond, not, _&&_, _||_}
+use mathlib.Core.Path.{_≡_, refl, sym, ap, _∙_}
+use mathlib.Core.Bool.{Bool, true, false, cond, not, _&&_}
 use mathlib.Core.List.{List, [], _∷_, _++_, map}
-use mathlib.Core.Logic.{_⊎_, inl, inr, ⊎-elim}
-use Prim.Native.Nat.{ℕ, zero, suc, _+_, _-_, _≤_, _<_}
+use Prim.Native.Nat.{ℕ, suc, _+_, _-_, _<_}
 use native.Mathlib.Omega.{arith}
 use lib.ListN.{length}
-use lib.Dec.{leb, eqb}
-use Rattle.std.specs.declared.option.Option.{Option}
-use Rattle.std.specs.declared.option.Option.the-variants.{Some, None}
-use Rattle.std.proofs.shelf.Tests.{false≢true, and-parts, ne-eqb, eqb-true, eqb-false, lt-leb}
-use Rattle.std.specs.shelf.Lists.{All}
+use lib.Dec.{eqb}
+use Rattle.std.specs.declared.option.Option.the-variants.{Some}
+use Rattle.std.proofs.shelf.Tests.{false≢true, ne-eqb, eqb-true}
 use Rattle.market.specs.declared.words.Side.{Side}
 use Rattle.market.specs.declared.words.Stop.{Stop}
 use Rattle.market.specs.declared.words.Place.{Place}
 use Rattle.market.specs.declared.words.Place.the-variants.{Book, Line, StopFile, Nowhere}
 use Rattle.market.specs.declared.words.Order.{Order}
 use Rattle.market.specs.Sides.{asGood}
-use Rattle.market.specs.Orders.{isBook, whereWith, fill, cancel, put}
-use Rattle.replay.specs.Lists.{only, total, those, kept, any}
+use Rattle.market.specs.Orders.{isBook, fill, cancel, put}
+use Rattle.replay.specs.Lists.{only, those, kept}
 use Rattle.replay.specs.Rolls.{isFiled, look, found, alter, here, filed}
 use Rattle.replay.specs.Book.{isAt, isBetter}
 use Rattle.replay.specs.Moves.{dealt, deal, after, isElected, called}

@@ -1,26 +1,20 @@
 -- After its own call, a stop is filed.
-use mathlib.Core.Path.{_≡_, refl, sym, ap, subst, _∙_}
+use mathlib.Core.Path.{_≡_, refl, sym, subst, _∙_}
 use mathlib.Core.Bool.{Bool, true, false}
-use mathlib.Core.List.{List, [], _∷_, _++_}
-use mathlib.Core.Logic.{_⊎_, inl, inr, ⊎-elim}
-use Prim.Native.Nat.{ℕ, suc, _+_}
+use mathlib.Core.Logic.{inl, inr}
+use Prim.Native.Nat.{ℕ, suc}
 use native.Mathlib.Omega.{arith}
 use lib.ListN.{length}
-use Rattle.std.specs.declared.option.Option.{Option}
-use Rattle.std.specs.declared.option.Option.the-variants.{Some, None}
 use Rattle.market.specs.declared.words.Side.{Side}
-use Rattle.market.specs.declared.words.Kind.{Kind}
 use Rattle.market.specs.declared.words.Kind.the-variants.{Stop}
-use Rattle.market.specs.declared.words.Place.{Place}
 use Rattle.market.specs.declared.words.Place.the-variants.{StopFile}
 use Rattle.market.specs.declared.words.Order.{Order}
 use Rattle.market.specs.Orders.{put}
-use Rattle.sharing.specs.Shares.{LawfulRule}
-use Rattle.replay.specs.Days.{Day, Rule, Call, LoadStop, Enter, newDay}
-use Rattle.replay.specs.Rolls.{look, fresh}
+use Rattle.replay.specs.Days.{Day, Rule, LoadStop, Enter, newDay}
+use Rattle.replay.specs.Rolls.{fresh}
 use Rattle.replay.specs.Moves.{admit}
-use Rattle.replay.specs.Runs.{work, turns, busy, joinOf, join}
-use Rattle.replay.specs.Calls.{refusal, checks, decided, became, perform, step, after-calls}
+use Rattle.replay.specs.Runs.{work, busy, joinOf, join}
+use Rattle.replay.specs.Calls.{decided, became, perform, step, after-calls}
 use Rattle.replay.specs.Elections.{IsFiled, FiledAtOnce, StopsAreFiled}
 use Rattle.replay.proofs.Runs.{Sound}
 use Rattle.replay.proofs.Calls.{look-push, calls-sound, new-sound}

@@ -1,45 +1,44 @@
 -- No fill passes its order's limit or the range in force; an order's filled shares are the sum of its fills.
 use mathlib.Core.Path.{_≡_, refl, sym, ap, subst, _∙_}
-use mathlib.Core.Bool.{Bool, true, false, cond, not, _&&_, _||_}
+use mathlib.Core.Bool.{Bool, true, false, _&&_}
 use mathlib.Core.List.{List, [], _∷_, _++_, map}
 use mathlib.Core.Logic.{_⊎_, inl, inr, ⊎-elim}
-use Prim.Native.Nat.{ℕ, zero, suc, _+_, _-_, _*_, _%_, _≤_, _<_, min}
+use Prim.Native.Nat.{ℕ, zero, suc, _+_, _-_, _≤_, _<_}
 use native.Mathlib.Omega.{arith}
 use lib.ListN.{length}
-use lib.Dec.{leb, ltb, eqb}
+use lib.Dec.{leb, eqb}
 use Rattle.std.specs.declared.option.Option.{Option}
 use Rattle.std.specs.declared.option.Option.the-variants.{Some, None}
-use Rattle.std.proofs.shelf.Tests.{false≢true, and-parts, and-from, eq-eqb, ne-eqb, eqb-true, eqb-false, cases-eq, ltb-true, leb-true, le-leb}
+use Rattle.std.proofs.shelf.Tests.{and-parts, eq-eqb, ne-eqb, eqb-true, cases-eq, ltb-true, leb-true, le-leb}
 use Rattle.std.specs.shelf.Lists.{All, Each}
 use Rattle.market.specs.declared.words.Side.{Side}
 use Rattle.market.specs.declared.words.Side.the-variants.{Buy, Sell}
 use Rattle.market.specs.declared.words.Kind.{Kind}
 use Rattle.market.specs.declared.words.Kind.the-variants.{Limit, Market, ImmediateOrCancel, Stop}
 use Rattle.market.specs.declared.words.Place.{Place}
-use Rattle.market.specs.declared.words.Place.the-variants.{Book, Line, StopFile, Nowhere}
+use Rattle.market.specs.declared.words.Place.the-variants.{Book, Line}
 use Rattle.market.specs.declared.words.Order.{Order}
 use Rattle.market.specs.declared.words.Range.{Range}
 use Rattle.market.specs.declared.words.TapeLine.{TapeLine}
 use Rattle.market.specs.declared.words.TapeLine.the-variants.{Print, Cancel, Elect, Floor}
 use Rattle.market.specs.Sides.{opposite, sameSide, better, asGood}
-use Rattle.market.specs.Orders.{restsOn, isBook, whereWith, fill, cancel, put, inLimit, withinLimit}
+use Rattle.market.specs.Orders.{restsOn, isBook, fill, cancel, put, inLimit, withinLimit}
 use Rattle.market.specs.Ranges.{inRange}
 use Rattle.sharing.specs.Shares.{LawfulRule}
-use Rattle.replay.specs.Lists.{only, total, those, kept, any}
+use Rattle.replay.specs.Lists.{only, total, those, kept}
 use Rattle.replay.specs.Days.{Fill, Day, Rule, newDay}
-use Rattle.replay.specs.Rolls.{isFiled, look, found, alter, here, left, openOf, fresh, placeOf}
-use Rattle.replay.specs.Book.{isAt, isBetter, row, ahead, isContra}
+use Rattle.replay.specs.Rolls.{look, found, alter, left, fresh}
+use Rattle.replay.specs.Book.{isAt, isBetter, row, ahead}
 use Rattle.replay.specs.Moves.{lowOf, highOf, deal, part, gift, after, filledBy, taken, size, trade, leave, withdraw, rest, pause, elect, isElected, called, centre, admit, floored, resumed, setUp, to, dealt}
 use Rattle.replay.specs.BookInOrder.{InShown, WithinLimit, sharesOf, OfPrint, FilledBy}
 use Rattle.replay.proofs.Lists.{append-append, append-none, total-append, total-push, all-append, all-map}
 use Rattle.replay.proofs.Sharing.{Gift}
-use Rattle.replay.proofs.Rolls.{Good, Held, isBetter-isAt, val, total-alter, only-add, only-zero, look-same, look-deal, same-side}
-use Rattle.replay.proofs.Conservation.{Ready, Fits, fits, zip, gs-sum}
-use Rattle.replay.proofs.Moves.{Waits, total-called}
-use Rattle.replay.proofs.Prices.{Among, among-map}
+use Rattle.replay.proofs.Rolls.{isBetter-isAt, val, total-alter, only-add, only-zero, look-deal, same-side}
+use Rattle.replay.proofs.Conservation.{Ready, fits, zip, gs-sum}
+use Rattle.replay.proofs.Moves.{total-called}
 use Rattle.replay.proofs.Runs.{Sound, Mid, Prints, Counted, numbers, fill-number, called-number, trade-ready, look-number}
 use Rattle.replay.proofs.Calls.{put-number}
-use Rattle.replay.proofs.Keeps.{Placed, Keeps}
+use Rattle.replay.proofs.Keeps.{Keeps}
 use Rattle.replay.proofs.Idle.{upon, look-alter, look-past, Dealt, look-dealt, counted-look}
 
 -- sums ------------------------------------------------------------------------------------------------------------------------------------

@@ -1,8 +1,8 @@
 -- What is on the tape already changes nothing: a call on a day with a history does what it does on the day without, after that history.
 use mathlib.Core.Path.{_≡_, refl, sym, ap, subst, _∙_}
-use mathlib.Core.Bool.{Bool, true, false, cond, not, _&&_, _||_}
-use mathlib.Core.List.{List, [], _∷_, _++_, map}
-use Prim.Native.Nat.{ℕ, zero, suc, _+_, _-_, _*_, _%_, _≤_, _<_, min}
+use mathlib.Core.Bool.{Bool, true, false}
+use mathlib.Core.List.{List, [], _∷_, _++_}
+use Prim.Native.Nat.{ℕ, zero, suc, _+_, _-_}
 use lib.ListN.{length}
 use Rattle.std.specs.declared.option.Option.{Option}
 use Rattle.std.specs.declared.option.Option.the-variants.{Some, None}
@@ -10,20 +10,19 @@ use Rattle.market.specs.declared.words.Side.{Side}
 use Rattle.market.specs.declared.words.Kind.{Kind}
 use Rattle.market.specs.declared.words.Kind.the-variants.{Limit, Market, ImmediateOrCancel, Stop}
 use Rattle.market.specs.declared.words.Place.{Place}
-use Rattle.market.specs.declared.words.Place.the-variants.{Book, Line, StopFile, Nowhere}
-use Rattle.market.specs.declared.words.Column.{Column}
+use Rattle.market.specs.declared.words.Place.the-variants.{Line}
 use Rattle.market.specs.declared.words.Order.{Order}
 use Rattle.market.specs.declared.words.Range.{Range}
 use Rattle.market.specs.declared.words.TapeLine.{TapeLine}
-use Rattle.market.specs.declared.words.TapeLine.the-variants.{Print, Cancel, Elect, Floor}
 use Rattle.market.specs.Sides.{opposite}
-use Rattle.replay.specs.Lists.{those, any, beyond}
-use Rattle.replay.specs.Days.{Fill, Day, Phase, Trading, Closed, Rule, Call, Set, LoadLimit, LoadStop, Open, Enter, CancelOrder, FloorTrade, Resume, Close, Answer, Number, Lines, Entered, Outcome}
+use Rattle.replay.specs.Lists.{any, beyond}
+use Rattle.replay.specs.Days.{Fill, Day, Rule, Call, Set, LoadLimit, LoadStop, Open, Enter, CancelOrder, FloorTrade, Resume, Close, Answer, Lines, Entered}
 use Rattle.replay.specs.Rolls.{look, left, fresh}
-use Rattle.replay.specs.Book.{row, ahead, isContra}
-use Rattle.replay.specs.Moves.{lowOf, highOf, deal, filledBy, taken, size, trade, leave, withdraw, rest, pause, elect, isElected, centre, admit, setUp, to, floored, resumed}
-use Rattle.replay.specs.Runs.{firstPrice, cleanUp, ifLeft, nextPrice, printAt, residual, settleOf, settle, electAt, centreIf, run, runOf, turnOf, turn, turns, work, busy, startPlace, joinOf, join}
-use Rattle.replay.specs.Calls.{after-calls, answers, tapes, refusal, decided, handed, columnOf, checks, became, answered, perform, step}
+use Rattle.replay.specs.Book.{isContra}
+use Rattle.replay.specs.Moves.{trade, leave, withdraw, rest, pause, elect, centre, admit, setUp, to, floored, resumed}
+use Rattle.replay.specs.Runs.{firstPrice, cleanUp, nextPrice, printAt, residual, settleOf, settle, electAt, centreIf, run, runOf, turnOf, turn, turns, work, busy, startPlace, joinOf, join}
+use Rattle.replay.specs.Calls.{after-calls, answers, tapes, refusal, decided, handed, checks, became, answered, perform, step}
+use Rattle.replay.specs.History.{bare, Bare, bareCalls, bareAnswers, bareTapes, joined, BareRun, HistoryUnread}
 use Rattle.replay.proofs.Lists.{append-append, append-none}
 
 beyond-both : {A : Type 0} (xs ys zs : List A) → beyond (xs ++ ys) (xs ++ zs) ≡ beyond ys zs
@@ -210,9 +209,6 @@ module _ (ts : List TapeLine) (fs : List Fill) where
         go (Some k) = (refl, refl)
 
 -- For the code, whose day keeps no tape: a call on the day without its history gives the answer, the lines, and the day again without history.
-abbrev pub bare : Day → Day
-bare d = record { roll = d .roll; line = d .line; paused = d .paused; range = d .range; last = d .last; class = d .class; column = d .column; phase = d .phase; tape = []; fills = [] }
-
 beyond-front : {A : Type 0} (xs ys : List A) → beyond xs (xs ++ ys) ≡ ys
 beyond-front [] ys = refl
 beyond-front (x ∷ xs) ys = beyond-front xs ys
@@ -221,12 +217,6 @@ with-history : (d : Day) → after (d .tape) (d .fills) (bare d) ≡ d
 with-history d =
     ap (λ t. record { roll = d .roll; line = d .line; paused = d .paused; range = d .range; last = d .last; class = d .class; column = d .column; phase = d .phase; tape = t; fills = d .fills ++ [] }) (append-none (d .tape))
     ∙ ap (λ f. record { roll = d .roll; line = d .line; paused = d .paused; range = d .range; last = d .last; class = d .class; column = d .column; phase = d .phase; tape = d .tape; fills = f }) (append-none (d .fills))
-
-pub record Bare (gifts : Rule) (room : ℕ) (d : Day) (c : Call) : Type 0 where
-  pub answer : step gifts room d c .answer ≡ step gifts room (bare d) c .answer
-  pub lines : handed d (step gifts room d c .day) ≡ step gifts room (bare d) c .day .tape
-  pub tape : step gifts room d c .day .tape ≡ d .tape ++ step gifts room (bare d) c .day .tape
-  pub day : bare (step gifts room d c .day) ≡ bare (step gifts room (bare d) c .day)
 
 pub step-bare : (gifts : Rule) (room : ℕ) (d : Day) (c : Call) → Bare gifts room d c
 step-bare gifts room d c =
@@ -239,29 +229,6 @@ step-bare gifts room d c =
       tape = ap (λ (x : Day). x .tape) i;
       day = ap bare i;
     }
-
--- a list of calls on days without history
-unfoldable pub bareCalls : Rule → ℕ → Day → List Call → Day
-bareCalls gifts room b [] = b
-bareCalls gifts room b (c ∷ cs) = bareCalls gifts room (bare (step gifts room b c .day)) cs
-
-unfoldable pub bareAnswers : Rule → ℕ → Day → List Call → List Answer
-bareAnswers gifts room b [] = []
-bareAnswers gifts room b (c ∷ cs) = step gifts room b c .answer ∷ bareAnswers gifts room (bare (step gifts room b c .day)) cs
-
-unfoldable pub bareTapes : Rule → ℕ → Day → List Call → List (List TapeLine)
-bareTapes gifts room b [] = []
-bareTapes gifts room b (c ∷ cs) = step gifts room b c .day .tape ∷ bareTapes gifts room (bare (step gifts room b c .day)) cs
-
-abbrev pub joined : List (List TapeLine) → List TapeLine
-joined [] = []
-joined (xs ∷ xss) = xs ++ joined xss
-
-pub record BareRun (gifts : Rule) (room : ℕ) (d : Day) (cs : List Call) : Type 0 where
-  pub day : bare (after-calls gifts room d cs) ≡ bareCalls gifts room (bare d) cs
-  pub answers : answers gifts room d cs ≡ bareAnswers gifts room (bare d) cs
-  pub lines : tapes gifts room d cs ≡ bareTapes gifts room (bare d) cs
-  pub tape : after-calls gifts room d cs .tape ≡ d .tape ++ joined (bareTapes gifts room (bare d) cs)
 
 pub run-bare : (gifts : Rule) (room : ℕ) (cs : List Call) (d : Day) → BareRun gifts room d cs
 unfolding after-calls answers tapes bareCalls bareAnswers bareTapes
@@ -278,3 +245,6 @@ run-bare gifts room (c ∷ cs) d =
           ∙ append-append (d .tape) (step gifts room (bare d) c .day .tape) (joined (bareTapes gifts room (bare (step gifts room d c .day)) cs))
           ∙ ap (λ x. d .tape ++ (step gifts room (bare d) c .day .tape ++ joined (bareTapes gifts room x cs))) (s .day);
     }
+
+pub history-unread : HistoryUnread
+history-unread = run-bare

@@ -1,45 +1,42 @@
 -- Nobody waits unless trading is paused.
 use mathlib.Core.Path.{_≡_, refl, sym, ap, subst, _∙_}
-use mathlib.Core.Bool.{Bool, true, false, cond, not, _&&_, _||_}
+use mathlib.Core.Bool.{Bool, true, false, cond, not}
 use mathlib.Core.List.{List, [], _∷_, _++_, map}
 use mathlib.Core.Logic.{_⊎_, inl, inr, ⊎-elim}
-use Prim.Native.Nat.{ℕ, zero, suc, _+_, _-_, _*_, _%_, _≤_, _<_, min}
+use Prim.Native.Nat.{ℕ, suc, _+_, _-_, _<_}
 use native.Mathlib.Omega.{arith}
 use lib.ListN.{length}
-use lib.Dec.{leb, ltb, eqb}
+use lib.Dec.{leb, eqb}
 use Rattle.std.specs.declared.option.Option.{Option}
 use Rattle.std.specs.declared.option.Option.the-variants.{Some, None}
-use Rattle.std.proofs.shelf.Tests.{false≢true, and-parts, and-from, eq-eqb, ne-eqb, eqb-true, eqb-false, cases-eq}
+use Rattle.std.proofs.shelf.Tests.{false≢true, eq-eqb, ne-eqb, eqb-true, cases-eq}
 use Rattle.std.specs.shelf.Lists.{All}
 use Rattle.market.specs.declared.words.Side.{Side}
-use Rattle.market.specs.declared.words.Side.the-variants.{Buy, Sell}
 use Rattle.market.specs.declared.words.Kind.{Kind}
 use Rattle.market.specs.declared.words.Kind.the-variants.{Limit, Market, ImmediateOrCancel, Stop}
 use Rattle.market.specs.declared.words.Place.{Place}
 use Rattle.market.specs.declared.words.Place.the-variants.{Book, Line, StopFile, Nowhere}
-use Rattle.market.specs.declared.words.Column.{Column}
 use Rattle.market.specs.declared.words.Order.{Order}
-use Rattle.market.specs.declared.words.Range.{Range}
 use Rattle.market.specs.declared.words.TapeLine.the-variants.{Floor}
-use Rattle.market.specs.Sides.{opposite, sameSide, asGood}
-use Rattle.market.specs.Orders.{restsOn, isBook, whereWith, fill, cancel, put}
+use Rattle.market.specs.Sides.{opposite}
+use Rattle.market.specs.Orders.{whereWith, fill, cancel, put}
 use Rattle.sharing.specs.Shares.{LawfulRule}
-use Rattle.replay.specs.Lists.{total, those, kept, any}
-use Rattle.replay.specs.Days.{Day, Phase, Trading, Closed, Rule, Call, Set, LoadLimit, LoadStop, Open, Enter, CancelOrder, FloorTrade, Resume, Close, Outcome, newDay}
-use Rattle.replay.specs.Rolls.{isFiled, isWaiting, look, found, alter, here, left, openOf, fresh, placeOf}
-use Rattle.replay.specs.Book.{isAt, isBetter, row, ahead, isContra}
-use Rattle.replay.specs.Moves.{deal, part, after, size, trade, leave, withdraw, rest, pause, elect, isElected, called, centre, without, lineWith, admit, setUp, to, floored, resumed, dealt}
-use Rattle.replay.specs.Runs.{work, busy, turns, turn, turnOf, startPlace, joinOf, join}
-use Rattle.replay.specs.Calls.{refusal, decided, columnOf, checks, became, perform, step, after-calls}
+use Rattle.replay.specs.Lists.{those, kept, any}
+use Rattle.replay.specs.Days.{Day, Rule, Call, Set, LoadLimit, LoadStop, Open, Enter, CancelOrder, FloorTrade, Resume, Close, newDay}
+use Rattle.replay.specs.Rolls.{isWaiting, look, found, alter, here, left, openOf, fresh, placeOf}
+use Rattle.replay.specs.Book.{isAt, isBetter, isContra}
+use Rattle.replay.specs.Moves.{deal, after, size, trade, leave, withdraw, rest, pause, elect, isElected, called, centre, without, lineWith, admit, setUp, to, floored, resumed, dealt}
+use Rattle.replay.specs.Runs.{work, startPlace, joinOf, join}
+use Rattle.replay.specs.Calls.{refusal, checks, became, perform, step, after-calls}
 use Rattle.replay.specs.SharesAddUp.{printOf, cancelOf}
 use Rattle.replay.proofs.Lists.{total-push, all-map}
-use Rattle.replay.proofs.Rolls.{Good, Held, dealt-is, dealt-number}
+use Rattle.replay.proofs.Rolls.{Held, dealt-is, dealt-number}
 use Rattle.replay.proofs.Moves.{Waits}
-use Rattle.replay.proofs.Prices.{Among, among-map}
-use Rattle.replay.proofs.Runs.{Sound, Mid, Prints, Counted, numbers, elect-sound, fill-number, called-number}
-use Rattle.replay.proofs.Calls.{decided-keeps, passed-enter, good-shares, start-held, admit-fresh, same-sound, step-sound, new-sound, put-number, put-place}
-use Rattle.replay.proofs.Keeps.{Placed, Keeps, always}
-use Rattle.replay.proofs.Turns.{Idle, work-idle, empty}
+use Rattle.replay.proofs.Prices.{Among}
+use Rattle.replay.proofs.Runs.{Sound, Mid, Counted, numbers, elect-sound, fill-number, called-number}
+use Rattle.replay.proofs.Calls.{decided-keeps, passed-enter, good-shares, start-held, admit-fresh, same-sound, step-sound, put-place}
+use Rattle.replay.proofs.Keeps.{Keeps}
+use Rattle.replay.proofs.Turns.{Idle, work-idle}
 use Rattle.market.specs.Bounds.{isShares}
 
 -- looking up in a changed roll -----------------------------------------------------------------------------------------------------------

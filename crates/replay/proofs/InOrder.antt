@@ -1,16 +1,11 @@
 -- The book stays in order, over every list of calls.
-use mathlib.Core.Path.{_≡_, refl}
-use mathlib.Core.List.{List, [], _∷_}
-use Prim.Native.Nat.{ℕ}
-use Rattle.sharing.specs.Shares.{LawfulRule}
-use Rattle.replay.specs.Days.{Day, Rule, Call, newDay}
+use Rattle.replay.specs.Days.{Day, newDay}
 use Rattle.replay.specs.Calls.{after-calls}
-use Rattle.replay.specs.BookInOrder.{Orderly, FilledBy, BookInOrder}
+use Rattle.replay.specs.BookInOrder.{FilledBy, BookInOrder}
 use Rattle.replay.specs.Lines.{WorkedOff}
 use Rattle.replay.proofs.Runs.{Sound}
 use Rattle.replay.proofs.Calls.{calls-sound, new-sound}
 use Rattle.replay.proofs.Keeps.{always}
-use Rattle.replay.proofs.Turns.{Idle}
 use Rattle.replay.proofs.Apart.{Apart, apart-keeps, bid-below, new-apart}
 use Rattle.replay.proofs.Idle.{InLine, inLine-keeps, new-inLine, calls-idle, new-idle, nobody-waits}
 use Rattle.replay.proofs.Fills.{Fair, fair-keeps, new-fair, filled-sums, filled-keeps, new-filled}

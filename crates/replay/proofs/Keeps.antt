@@ -1,44 +1,39 @@
 -- A law of the day that every move keeps holds after every list of calls: the one induction for all such laws.
 use mathlib.Core.Path.{_≡_, refl, sym, ap, subst, _∙_}
-use mathlib.Core.Bool.{Bool, true, false, cond, not, _&&_, _||_}
-use mathlib.Core.List.{List, [], _∷_, _++_, map}
-use mathlib.Core.Logic.{_⊎_, inl, inr, ⊎-elim}
-use Prim.Native.Nat.{ℕ, zero, suc, _+_, _-_, _*_, _%_, _≤_, _<_, min}
+use mathlib.Core.Bool.{Bool, true, false, not}
+use mathlib.Core.List.{List, [], _∷_}
+use Prim.Native.Nat.{ℕ, zero, suc, _-_, _<_}
 use native.Mathlib.Omega.{arith}
 use lib.ListN.{length}
-use lib.Dec.{leb, ltb, eqb}
+use lib.Dec.{leb}
 use Rattle.std.specs.declared.option.Option.{Option}
 use Rattle.std.specs.declared.option.Option.the-variants.{Some, None}
-use Rattle.std.proofs.shelf.Tests.{false≢true}
 use Rattle.std.specs.shelf.Lists.{All}
 use Rattle.market.specs.declared.words.Side.{Side}
-use Rattle.market.specs.declared.words.Side.the-variants.{Buy, Sell}
 use Rattle.market.specs.declared.words.Kind.{Kind}
 use Rattle.market.specs.declared.words.Kind.the-variants.{Limit, Market, ImmediateOrCancel, Stop}
 use Rattle.market.specs.declared.words.Place.{Place}
-use Rattle.market.specs.declared.words.Place.the-variants.{Book, Line, StopFile, Nowhere}
+use Rattle.market.specs.declared.words.Place.the-variants.{Book, Line, StopFile}
 use Rattle.market.specs.declared.words.Column.{Column}
 use Rattle.market.specs.declared.words.Order.{Order}
 use Rattle.market.specs.declared.words.Range.{Range}
-use Rattle.market.specs.declared.words.TapeLine.the-variants.{Print, Cancel, Elect, Floor}
+use Rattle.market.specs.declared.words.TapeLine.the-variants.{Floor}
 use Rattle.market.specs.Sides.{opposite}
-use Rattle.market.specs.Orders.{whereWith}
 use Rattle.market.specs.Ranges.{inRange}
 use Rattle.sharing.specs.Shares.{LawfulRule}
-use Rattle.replay.specs.Lists.{total, any}
-use Rattle.replay.specs.Days.{Day, Phase, Trading, Closed, Rule, Call, Set, LoadLimit, LoadStop, Open, Enter, CancelOrder, FloorTrade, Resume, Close, Outcome, newDay}
-use Rattle.replay.specs.Rolls.{look, left, openOf, fresh, placeOf}
+use Rattle.replay.specs.Lists.{any}
+use Rattle.replay.specs.Days.{Day, Phase, Trading, Closed, Rule, Call, Set, LoadLimit, LoadStop, Open, Enter, CancelOrder, FloorTrade, Resume, Close, newDay}
+use Rattle.replay.specs.Rolls.{look, left, fresh}
 use Rattle.replay.specs.Book.{isContra}
 use Rattle.replay.specs.Moves.{trade, leave, withdraw, rest, pause, elect, centre, admit, setUp, to, floored, resumed}
 use Rattle.replay.specs.Runs.{firstPrice, cleanUp, ifLeft, nextPrice, printAt, residual, settleOf, settle, electAt, centreIf, run, runOf, turnOf, turn, turns, work, busy, startPlace, joinOf, join}
-use Rattle.replay.specs.Calls.{refusal, decided, columnOf, checks, became, perform, step, after-calls}
+use Rattle.replay.specs.Calls.{refusal, columnOf, checks, became, perform, step, after-calls}
 use Rattle.replay.specs.SharesAddUp.{printOf, cancelOf}
 use Rattle.replay.proofs.Lists.{total-push}
-use Rattle.replay.proofs.Rolls.{Good, Held}
-use Rattle.replay.proofs.Conservation.{find-all}
+use Rattle.replay.proofs.Rolls.{Held}
 use Rattle.replay.proofs.Moves.{Waits}
-use Rattle.replay.proofs.Runs.{Sound, Mid, Prints, Counted, numbers, waiter, look-number, spot-open, waiting-held, First, first-is, Clear, clear-trade, trade-range, trade-mid, first-prints, next-prints, mid-waits, starts, settle-sound, elect-sound, electAt-sound, turn-sound}
-use Rattle.replay.proofs.Calls.{Checked, checked-limit, checked-stop, checked-enter, checked-set, checked-floor, decided-keeps, passed-limit, passed-stop, passed-enter, good-shares, start-held, admit-fresh, same-sound, step-sound, new-sound}
+use Rattle.replay.proofs.Runs.{Sound, Mid, Prints, Counted, numbers, waiter, First, first-is, Clear, clear-trade, trade-range, trade-mid, first-prints, next-prints, mid-waits, starts, settle-sound, elect-sound, turn-sound}
+use Rattle.replay.proofs.Calls.{Checked, checked-limit, checked-stop, checked-enter, checked-set, checked-floor, decided-keeps, passed-limit, passed-enter, good-shares, start-held, admit-fresh, same-sound, step-sound, new-sound}
 use Rattle.market.specs.Bounds.{isPrice, isShares, isClass, isLastSale}
 
 module _ (gifts : Rule) (lawful : LawfulRule gifts) where

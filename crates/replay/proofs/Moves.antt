@@ -1,32 +1,29 @@
 -- The other changes of a day keep the books.
 use mathlib.Core.Path.{_≡_, refl, sym, ap, subst, _∙_}
-use mathlib.Core.Bool.{Bool, true, false, cond, not, _&&_, _||_}
+use mathlib.Core.Bool.{Bool, true, false}
 use mathlib.Core.List.{List, [], _∷_, _++_, map}
-use Prim.Native.Nat.{ℕ, zero, suc, _+_, _-_, _*_, _%_, _≤_, _<_, min}
+use Prim.Native.Nat.{ℕ, _+_, _-_, _≤_, _<_}
 use native.Mathlib.Omega.{arith}
 use lib.ListN.{length}
-use lib.Dec.{leb, ltb, eqb}
 use Rattle.std.specs.declared.option.Option.{Option}
 use Rattle.std.specs.declared.option.Option.the-variants.{Some, None}
 use Rattle.std.proofs.shelf.Tests.{false≢true, and-parts}
 use Rattle.std.specs.shelf.Lists.{All}
-use Rattle.market.specs.declared.words.Side.{Side}
-use Rattle.market.specs.declared.words.Side.the-variants.{Buy, Sell}
 use Rattle.market.specs.declared.words.Place.{Place}
 use Rattle.market.specs.declared.words.Place.the-variants.{Book, Line, StopFile, Nowhere}
 use Rattle.market.specs.declared.words.Order.{Order}
 use Rattle.market.specs.declared.words.TapeLine.{TapeLine}
-use Rattle.market.specs.declared.words.TapeLine.the-variants.{Print, Cancel, Elect, Floor}
+use Rattle.market.specs.declared.words.TapeLine.the-variants.{Cancel, Elect}
 use Rattle.market.specs.Sides.{sameSide, asGood}
-use Rattle.market.specs.Orders.{fill, cancel, put, whereWith}
-use Rattle.replay.specs.Lists.{only, total, those, kept, any}
+use Rattle.market.specs.Orders.{cancel, put}
+use Rattle.replay.specs.Lists.{only, total, those}
 use Rattle.replay.specs.Days.{Day}
-use Rattle.replay.specs.Rolls.{isFiled, look, found, alter, here, left, openOf, placeOf}
-use Rattle.replay.specs.Moves.{deal, leave, withdraw, rest, pause, elect, isElected, called, centre, admit, setUp, to, floored, resumed, without}
+use Rattle.replay.specs.Rolls.{isFiled, look, left, openOf, placeOf}
+use Rattle.replay.specs.Moves.{leave, withdraw, rest, pause, elect, isElected, called, centre, admit}
 use Rattle.replay.specs.SharesAddUp.{printOf, cancelOf, filledOn}
 use Rattle.replay.proofs.Lists.{total-push, length-push, length-map, all-push}
 use Rattle.replay.proofs.Rolls.{Good, Held, good-cancel, val, total-alter, all-alter, length-alter}
-use Rattle.replay.proofs.Conservation.{Books, find-all}
+use Rattle.replay.proofs.Conservation.{Books}
 
 abbrev pub Waits : List Order → ℕ → Type 0
 Waits os n = placeOf (look n os) ≡ Line

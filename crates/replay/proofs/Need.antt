@@ -1,15 +1,13 @@
 -- A call writes no more lines than it asks for.
 use mathlib.Core.Path.{_≡_, refl, sym, ap, subst, _∙_}
-use mathlib.Core.Bool.{Bool, true, false, cond, not, _&&_, _||_}
+use mathlib.Core.Bool.{Bool, true, false}
 use mathlib.Core.List.{List, [], _∷_, _++_, map}
 use mathlib.Core.Logic.{_⊎_, inl, inr, ⊎-elim}
-use Prim.Native.Nat.{ℕ, zero, suc, _+_, _-_, _*_, _%_, _≤_, _<_, min}
+use Prim.Native.Nat.{ℕ, zero, suc, _+_, _-_, _*_, _≤_, _<_}
 use native.Mathlib.Omega.{arith}
 use lib.ListN.{length}
-use lib.Dec.{leb, ltb, eqb}
 use Rattle.std.specs.declared.option.Option.{Option}
 use Rattle.std.specs.declared.option.Option.the-variants.{Some, None}
-use Rattle.std.specs.shelf.Lists.{All}
 use Rattle.market.specs.declared.words.Side.{Side}
 use Rattle.market.specs.declared.words.Kind.{Kind}
 use Rattle.market.specs.declared.words.Kind.the-variants.{Limit, Market, ImmediateOrCancel, Stop}
@@ -17,18 +15,16 @@ use Rattle.market.specs.declared.words.Place.{Place}
 use Rattle.market.specs.declared.words.Place.the-variants.{Book, Line, StopFile, Nowhere}
 use Rattle.market.specs.declared.words.Order.{Order}
 use Rattle.market.specs.declared.words.Range.{Range}
-use Rattle.market.specs.declared.words.TapeLine.{TapeLine}
 use Rattle.market.specs.declared.words.TapeLine.the-variants.{Print, Cancel, Elect, Floor}
 use Rattle.market.specs.Sides.{opposite}
 use Rattle.market.specs.Orders.{fill, cancel, put}
-use Rattle.sharing.specs.Shares.{LawfulRule}
-use Rattle.replay.specs.Lists.{only, total, those, any, beyond}
-use Rattle.replay.specs.Days.{Day, Rule, Call, Set, LoadLimit, LoadStop, Open, Enter, CancelOrder, FloorTrade, Resume, Close, Outcome, newDay}
-use Rattle.replay.specs.Rolls.{isFiled, look, alter, left, filed, fresh}
+use Rattle.replay.specs.Lists.{only, those, any, beyond}
+use Rattle.replay.specs.Days.{Day, Rule, Call, Set, LoadLimit, LoadStop, Open, Enter, CancelOrder, FloorTrade, Resume, Close, newDay}
+use Rattle.replay.specs.Rolls.{isFiled, look, left, filed, fresh}
 use Rattle.replay.specs.Book.{row, ahead, isContra}
-use Rattle.replay.specs.Moves.{lowOf, highOf, deal, size, trade, leave, withdraw, rest, pause, elect, isElected, called, centre, without, lineWith, admit, setUp, to, floored, resumed}
+use Rattle.replay.specs.Moves.{lowOf, highOf, deal, size, trade, leave, withdraw, rest, pause, elect, isElected, called, centre, lineWith, admit, setUp, to, floored, resumed}
 use Rattle.replay.specs.Runs.{firstPrice, nextPrice, printAt, residual, settleOf, settle, electAt, centreIf, run, runOf, turnOf, turn, turns, work, busy, startPlace, joinOf, join}
-use Rattle.replay.specs.Calls.{need, refusal, decided, handed, columnOf, checks, became, perform, step, after-calls}
+use Rattle.replay.specs.Calls.{need, refusal, checks, became, perform, step, after-calls}
 use Rattle.replay.specs.Lines.{wants, TapeSuffices}
 use Rattle.replay.proofs.Lists.{total-push, length-push, length-append, length-map}
 use Rattle.replay.proofs.Runs.{look-number}

@@ -1,16 +1,14 @@
 -- The first price and the clean-up price are good prices to trade at.
-use mathlib.Core.Path.{_≡_, refl, sym, ap, subst, _∙_}
-use mathlib.Core.Bool.{Bool, true, false, cond, not, _&&_, _||_}
-use mathlib.Core.List.{List, [], _∷_, _++_, map}
+use mathlib.Core.Path.{_≡_, refl, sym, subst, _∙_}
+use mathlib.Core.Bool.{Bool, true, false, cond, _&&_, _||_}
+use mathlib.Core.List.{List, [], _∷_, map}
 use mathlib.Core.Logic.{_⊎_, inl, inr, ⊎-elim}
-use Prim.Native.Nat.{ℕ, zero, suc, _+_, _-_, _*_, _%_, _≤_, _<_, min}
+use Prim.Native.Nat.{ℕ, _-_, _≤_, _<_}
 use native.Mathlib.Omega.{arith}
-use lib.ListN.{length}
-use lib.Dec.{leb, ltb, eqb}
+use lib.Dec.{leb}
 use Rattle.std.specs.declared.option.Option.{Option}
 use Rattle.std.specs.declared.option.Option.the-variants.{Some, None}
-use Rattle.std.proofs.shelf.Tests.{false≢true, and-parts, and-from, eq-eqb, ltb-true, ltb-false, leb-true, leb-false, le-leb, lt-ltb, le-ltb, cases-lt, cases-bool}
-use Rattle.std.proofs.shelf.Ways.{tells}
+use Rattle.std.proofs.shelf.Tests.{false≢true, and-parts, and-from, ltb-true, ltb-false, leb-true, le-leb, le-ltb, cases-lt}
 use Rattle.std.specs.shelf.Lists.{All}
 use Rattle.market.specs.declared.words.Side.{Side}
 use Rattle.market.specs.declared.words.Side.the-variants.{Buy, Sell}
@@ -22,7 +20,7 @@ use Rattle.market.specs.Sides.{opposite, better, asGood}
 use Rattle.market.specs.Orders.{restsOn, inLimit, withinLimit}
 use Rattle.market.specs.Ranges.{inRange}
 use Rattle.replay.specs.Lists.{only, total, those, kept, any}
-use Rattle.replay.specs.Book.{best, pick, isBetter, isAt, isUpTo, ahead, depth, prices, isContra, isReached}
+use Rattle.replay.specs.Book.{best, pick, isBetter, isUpTo, ahead, depth, prices, isContra, isReached}
 use Rattle.replay.specs.Runs.{or}
 use Rattle.replay.proofs.Lists.{all-map}
 

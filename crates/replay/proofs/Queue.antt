@@ -1,36 +1,34 @@
 -- Nobody is in line twice; so waiting orders and filed stops are never more than the orders of the roll, and 2,049 free lines always suffice.
 use mathlib.Core.Path.{_≡_, refl, sym, ap, subst, _∙_}
-use mathlib.Core.Bool.{Bool, true, false, cond, not, _&&_, _||_}
-use mathlib.Core.List.{List, [], _∷_, _++_, map}
-use mathlib.Core.Logic.{_⊎_, inl, inr, ⊎-elim}
-use Prim.Native.Nat.{ℕ, zero, suc, _+_, _-_, _*_, _≤_, _<_}
+use mathlib.Core.Bool.{Bool, true, false, not, _||_}
+use mathlib.Core.List.{List, [], _∷_, _++_}
+use Prim.Native.Nat.{ℕ, suc, _+_, _-_, _≤_, _<_}
 use native.Mathlib.Omega.{arith}
 use lib.ListN.{length}
-use lib.Dec.{leb, ltb, eqb}
+use lib.Dec.{ltb, eqb}
 use Rattle.std.specs.declared.option.Option.{Option}
 use Rattle.std.specs.declared.option.Option.the-variants.{Some, None}
-use Rattle.std.proofs.shelf.Tests.{false≢true, and-parts, eq-eqb, eqb-true, le-ltb, leb-true, leb-false}
+use Rattle.std.proofs.shelf.Tests.{false≢true, and-parts, eq-eqb, eqb-true, le-ltb, leb-false}
 use Rattle.std.specs.shelf.Lists.{All}
-use Rattle.market.specs.declared.words.Side.{Side}
 use Rattle.market.specs.declared.words.Side.the-variants.{Buy, Sell}
 use Rattle.market.specs.declared.words.Place.{Place}
 use Rattle.market.specs.declared.words.Place.the-variants.{Book, Line, StopFile, Nowhere}
 use Rattle.market.specs.declared.words.Order.{Order}
 use Rattle.market.specs.Sides.{asGood}
-use Rattle.market.specs.Orders.{cancel, put}
+use Rattle.market.specs.Orders.{cancel}
 use Rattle.sharing.specs.Shares.{LawfulRule}
-use Rattle.replay.specs.Lists.{only, total, those, kept, any}
+use Rattle.replay.specs.Lists.{only, total, those, kept}
 use Rattle.replay.specs.Days.{Trading, Day, Rule, Call, Set, LoadLimit, LoadStop, Open, Enter, CancelOrder, FloorTrade, Resume, Close, newDay}
-use Rattle.replay.specs.Rolls.{isFiled, isWaiting, look, found, alter, here, filed, fresh, memberOf, absent, openOf, placeOf}
-use Rattle.replay.specs.Moves.{trade, leave, withdraw, rest, pause, elect, isElected, called, centre, without, lineWith, admit, floored, resumed, setUp, to}
+use Rattle.replay.specs.Rolls.{isFiled, isWaiting, look, found, alter, filed, fresh, memberOf, absent, openOf, placeOf}
+use Rattle.replay.specs.Moves.{trade, leave, withdraw, rest, pause, elect, isElected, centre, without, lineWith, admit, floored, resumed, setUp, to}
 use Rattle.replay.specs.Runs.{busy}
-use Rattle.replay.specs.Calls.{need, Check, check, refusal, first-of, onlyIn, orderChecks, fileFull, restingAt, checks, step, after-calls}
+use Rattle.replay.specs.Calls.{need, Check, check, refusal, first-of, onlyIn, orderChecks, fileFull, restingAt, checks, after-calls}
 use Rattle.replay.specs.Lines.{freeLines, NeverShort}
 use Rattle.replay.proofs.Lists.{all-append, all-map}
 use Rattle.replay.proofs.Rolls.{val, total-alter}
 use Rattle.replay.proofs.Moves.{Waits}
-use Rattle.replay.proofs.Runs.{Sound, Counted, numbers, waiter, look-number}
-use Rattle.replay.proofs.Calls.{calls-sound, new-sound, put-number}
+use Rattle.replay.proofs.Runs.{Sound, Counted, numbers, waiter}
+use Rattle.replay.proofs.Calls.{calls-sound, new-sound}
 use Rattle.replay.proofs.Keeps.{Keeps, always}
 use Rattle.replay.proofs.Idle.{look-past}
 use Rattle.market.specs.Bounds.{isPrice, isShares}

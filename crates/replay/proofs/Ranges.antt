@@ -2,7 +2,7 @@
 use mathlib.Core.Path.{_≡_, refl, sym, ap, subst, _∙_}
 use mathlib.Core.Bool.{Bool, true, false, not}
 use mathlib.Core.List.{List, [], _∷_, _++_, map}
-use Prim.Native.Nat.{ℕ, zero, suc, _+_, _-_, _<_}
+use Prim.Native.Nat.{ℕ, zero, suc, _+_, _-_}
 use native.Mathlib.Omega.{arith}
 use lib.ListN.{length}
 use lib.Dec.{leb}
@@ -13,16 +13,15 @@ use Rattle.market.specs.declared.words.Side.{Side}
 use Rattle.market.specs.declared.words.Kind.{Kind}
 use Rattle.market.specs.declared.words.Kind.the-variants.{Limit, Market, ImmediateOrCancel, Stop}
 use Rattle.market.specs.declared.words.Place.{Place}
-use Rattle.market.specs.declared.words.Place.the-variants.{Book, Line, StopFile, Nowhere}
+use Rattle.market.specs.declared.words.Place.the-variants.{Line, StopFile}
 use Rattle.market.specs.declared.words.Order.{Order}
 use Rattle.market.specs.declared.words.Range.{Range}
 use Rattle.market.specs.declared.words.TapeLine.{TapeLine}
 use Rattle.market.specs.declared.words.TapeLine.the-variants.{Print, Cancel, Elect, Floor}
 use Rattle.market.specs.Sides.{opposite}
-use Rattle.market.specs.Ranges.{rangeAround}
 use Rattle.sharing.specs.Shares.{LawfulRule}
-use Rattle.replay.specs.Lists.{total, those, any, beyond}
-use Rattle.replay.specs.Days.{Day, Phase, Trading, Rule, Call, Set, LoadLimit, LoadStop, Open, Enter, CancelOrder, FloorTrade, Resume, Close, newDay}
+use Rattle.replay.specs.Lists.{those, any, beyond}
+use Rattle.replay.specs.Days.{Day, Rule, Call, Set, LoadLimit, LoadStop, Open, Enter, CancelOrder, FloorTrade, Resume, Close, newDay}
 use Rattle.replay.specs.Rolls.{left, fresh}
 use Rattle.replay.specs.Book.{isContra}
 use Rattle.replay.specs.Moves.{lowOf, highOf, size, trade, leave, withdraw, rest, pause, elect, isElected, centre, admit, setUp, to, floored, resumed}
@@ -32,7 +31,7 @@ use Rattle.replay.specs.SharesAddUp.{printOf, cancelOf}
 use Rattle.replay.specs.RangeStays.{rangeFor, Shows, RangeStays}
 use Rattle.replay.proofs.Lists.{append-append, append-none, beyond-append, total-push, all-append}
 use Rattle.replay.proofs.Rolls.{Held}
-use Rattle.replay.proofs.Runs.{Sound, Mid, elect-sound}
+use Rattle.replay.proofs.Runs.{Sound, elect-sound}
 use Rattle.replay.proofs.Calls.{passed-enter, good-shares, start-held, admit-fresh, same-sound, calls-sound, new-sound}
 use Rattle.replay.proofs.Keeps.{works}
 use Rattle.market.specs.Bounds.{isShares}

@@ -1,15 +1,14 @@
 -- Laws of the roll: what looking up, altering and filling do to sums and to what holds of every order.
-use mathlib.Core.Path.{_≡_, refl, sym, ap, subst, _∙_}
-use mathlib.Core.Bool.{Bool, true, false, cond, not, _&&_, _||_}
-use mathlib.Core.List.{List, [], _∷_, _++_, map}
-use mathlib.Core.Logic.{_⊎_, inl, inr}
-use Prim.Native.Nat.{ℕ, zero, suc, _+_, _-_, _*_, _%_, _≤_, _<_, min}
+use mathlib.Core.Path.{_≡_, refl, sym, ap, _∙_}
+use mathlib.Core.Bool.{Bool, true, false, cond, _&&_, _||_}
+use mathlib.Core.List.{List, [], _∷_, map}
+use Prim.Native.Nat.{ℕ, suc, _+_, _-_, _%_, _≤_}
 use native.Mathlib.Omega.{arith}
 use lib.ListN.{length}
-use lib.Dec.{leb, ltb, eqb}
+use lib.Dec.{eqb}
 use Rattle.std.specs.declared.option.Option.{Option}
 use Rattle.std.specs.declared.option.Option.the-variants.{Some, None}
-use Rattle.std.proofs.shelf.Tests.{ne-eqb, false≢true, and-parts, eqb-true, ltb-true, ltb-false, leb-true, leb-false, eqb-false}
+use Rattle.std.proofs.shelf.Tests.{ne-eqb, false≢true, and-parts, eqb-true, ltb-true, eqb-false}
 use Rattle.std.proofs.shelf.Ways.{tells}
 use Rattle.std.specs.shelf.Lists.{All, Each}
 use Rattle.market.specs.declared.words.Side.{Side}
@@ -18,11 +17,11 @@ use Rattle.market.specs.declared.words.Place.{Place}
 use Rattle.market.specs.declared.words.Place.the-variants.{Book, Line, StopFile, Nowhere}
 use Rattle.market.specs.declared.words.Order.{Order}
 use Rattle.market.specs.Sides.{better, asGood, sameSide}
-use Rattle.market.specs.Orders.{restsOn, isBook, whereWith, fill, cancel, put}
+use Rattle.market.specs.Orders.{restsOn, isBook, whereWith, fill, cancel}
 use Rattle.replay.specs.Lists.{only, total, those, kept, any}
-use Rattle.replay.specs.Rolls.{look, found, alter, here, left, openOf}
+use Rattle.replay.specs.Rolls.{look, found, alter, here}
 use Rattle.replay.specs.Book.{isBetter, isAt, isUpTo, ahead, depth, row}
-use Rattle.replay.specs.Moves.{gift, after, part, deal, dealt}
+use Rattle.replay.specs.Moves.{gift, after, deal, dealt}
 use Rattle.replay.specs.SharesAddUp.{filledOn}
 use Rattle.replay.proofs.Sharing.{LawfulShares, Gift}
 

@@ -1,39 +1,37 @@
 -- A run, and so a call, keeps the day sound.
 use mathlib.Core.Path.{_≡_, refl, sym, ap, subst, _∙_}
-use mathlib.Core.Bool.{Bool, true, false, cond, not, _&&_, _||_}
-use mathlib.Core.List.{List, [], _∷_, _++_, map}
-use mathlib.Core.Logic.{_⊎_, inl, inr, ⊎-elim}
-use Prim.Native.Nat.{ℕ, zero, suc, _+_, _-_, _*_, _%_, _≤_, _<_, min}
+use mathlib.Core.Bool.{Bool, true, false, cond, not, _&&_}
+use mathlib.Core.List.{List, [], _∷_, map}
+use mathlib.Core.Logic.{_⊎_, ⊎-elim}
+use Prim.Native.Nat.{ℕ, zero, suc, _-_, _≤_, _<_}
 use native.Mathlib.Omega.{arith}
-use lib.ListN.{length}
-use lib.Dec.{leb, ltb, eqb}
+use lib.Dec.{eqb}
 use Rattle.std.specs.declared.option.Option.{Option}
 use Rattle.std.specs.declared.option.Option.the-variants.{Some, None}
 use Rattle.std.proofs.shelf.Tests.{false≢true, and-parts, and-from, eq-eqb, ne-eqb, eqb-true, eqb-false, cases-eq}
 use Rattle.std.specs.shelf.Lists.{All}
 use Rattle.market.specs.declared.words.Side.{Side}
-use Rattle.market.specs.declared.words.Side.the-variants.{Buy, Sell}
 use Rattle.market.specs.declared.words.Kind.{Kind}
 use Rattle.market.specs.declared.words.Kind.the-variants.{Limit, Market, ImmediateOrCancel, Stop}
 use Rattle.market.specs.declared.words.Place.{Place}
-use Rattle.market.specs.declared.words.Place.the-variants.{Book, Line, StopFile, Nowhere}
+use Rattle.market.specs.declared.words.Place.the-variants.{Book, Line, Nowhere}
 use Rattle.market.specs.declared.words.Order.{Order}
 use Rattle.market.specs.declared.words.Range.{Range}
 use Rattle.market.specs.Sides.{opposite, sameSide, better, asGood}
 use Rattle.market.specs.Orders.{restsOn, isBook, whereWith, fill, cancel, put, inLimit}
 use Rattle.market.specs.Ranges.{inRange}
 use Rattle.sharing.specs.Shares.{LawfulRule}
-use Rattle.replay.specs.Lists.{total, those, kept, any}
+use Rattle.replay.specs.Lists.{those, kept, any}
 use Rattle.replay.specs.Days.{Day, Rule}
-use Rattle.replay.specs.Rolls.{isFiled, isWaiting, look, found, alter, here, left, openOf, placeOf}
-use Rattle.replay.specs.Book.{best, isAt, isBetter, ahead, row, depth, prices, isContra, isReached}
-use Rattle.replay.specs.Moves.{deal, part, after, size, trade, leave, withdraw, rest, pause, elect, isElected, called, centre, without}
-use Rattle.replay.specs.Runs.{only-if, allowed, firstPrice, cleanUp, or, ifLeft, nextPrice, printAt, residual, settleOf, settle, electAt, centreIf, run, runOf, turnOf, turn, turns, work, busy}
+use Rattle.replay.specs.Rolls.{isFiled, look, found, alter, here, left, openOf, placeOf}
+use Rattle.replay.specs.Book.{best, isAt, isBetter, ahead, row, prices, isContra, isReached}
+use Rattle.replay.specs.Moves.{deal, after, size, trade, leave, withdraw, rest, pause, elect, isElected, called, centre, without}
+use Rattle.replay.specs.Runs.{only-if, allowed, firstPrice, cleanUp, ifLeft, nextPrice, printAt, residual, settleOf, settle, electAt, centreIf, run, runOf, turnOf, turn, turns, work, busy}
 use Rattle.replay.proofs.Lists.{all-append, all-map}
 use Rattle.replay.proofs.Rolls.{Good, Held, dealt-is, dealt-number, all-alter, look-same, look-other, look-deal}
 use Rattle.replay.proofs.Conservation.{Books, Ready, trade-books, find-all}
-use Rattle.replay.proofs.Moves.{Waits, books-same, leave-books, pause-books, centre-books, withdraw-books, rest-books, elect-books}
-use Rattle.replay.proofs.Prices.{Among, meet, among-any, among-map, best-all, best-in, of-prices, in-prices, none-ahead, in-reach, at-reach, cleanUp-short}
+use Rattle.replay.proofs.Moves.{Waits, leave-books, pause-books, centre-books, withdraw-books, rest-books, elect-books}
+use Rattle.replay.proofs.Prices.{Among, among-any, among-map, best-all, best-in, of-prices, in-prices, none-ahead, in-reach, at-reach, cleanUp-short}
 
 abbrev pub numbers : List Order → List ℕ
 numbers os = map (λ o. o .number) os

@@ -1,35 +1,32 @@
 -- Nobody waits unless trading is paused; bid below offer (pieces).
 use mathlib.Core.Path.{_≡_, refl, sym, ap, subst, _∙_}
-use mathlib.Core.Bool.{Bool, true, false, cond, not, _&&_, _||_}
-use mathlib.Core.List.{List, [], _∷_, _++_, map}
+use mathlib.Core.Bool.{Bool, true, false, cond, not, _&&_}
+use mathlib.Core.List.{List, [], _∷_, map}
 use mathlib.Core.Logic.{_⊎_, inl, inr, ⊎-elim}
-use Prim.Native.Nat.{ℕ, zero, suc, _+_, _-_, _*_, _%_, _≤_, _<_, min}
+use Prim.Native.Nat.{ℕ, zero, suc, _+_, _-_, _≤_, _<_}
 use native.Mathlib.Omega.{arith}
 use lib.ListN.{length}
-use lib.Dec.{leb, ltb, eqb}
+use lib.Dec.{eqb}
 use Rattle.std.specs.declared.option.Option.{Option}
 use Rattle.std.specs.declared.option.Option.the-variants.{Some, None}
-use Rattle.std.proofs.shelf.Tests.{false≢true, and-parts, and-from, eq-eqb, or-parts}
+use Rattle.std.proofs.shelf.Tests.{eq-eqb}
 use Rattle.std.specs.shelf.Lists.{All}
 use Rattle.market.specs.declared.words.Side.{Side}
-use Rattle.market.specs.declared.words.Side.the-variants.{Buy, Sell}
 use Rattle.market.specs.declared.words.Kind.{Kind}
 use Rattle.market.specs.declared.words.Kind.the-variants.{Limit, Market, ImmediateOrCancel, Stop}
-use Rattle.market.specs.declared.words.Place.{Place}
-use Rattle.market.specs.declared.words.Place.the-variants.{Book, Line, StopFile, Nowhere}
+use Rattle.market.specs.declared.words.Place.the-variants.{Book, Nowhere}
 use Rattle.market.specs.declared.words.Order.{Order}
 use Rattle.market.specs.declared.words.Range.{Range}
-use Rattle.market.specs.Sides.{opposite, sameSide, asGood}
-use Rattle.market.specs.Orders.{restsOn, isBook, whereWith, fill, cancel, put}
+use Rattle.market.specs.Sides.{opposite, asGood}
+use Rattle.market.specs.Orders.{fill, cancel, put}
 use Rattle.sharing.specs.Shares.{LawfulRule}
-use Rattle.replay.specs.Lists.{only, total, those, kept, any}
+use Rattle.replay.specs.Lists.{only, those, kept, any}
 use Rattle.replay.specs.Days.{Day, Rule}
-use Rattle.replay.specs.Rolls.{isFiled, look, found, alter, here, left, filed}
+use Rattle.replay.specs.Rolls.{isFiled, look, alter, here, left, filed}
 use Rattle.replay.specs.Book.{row, ahead, isAt, isBetter, isContra}
-use Rattle.replay.specs.Moves.{deal, part, after, size, trade, leave, withdraw, rest, pause, elect, isElected, called, centre, without}
+use Rattle.replay.specs.Moves.{deal, after, size, trade, leave, withdraw, rest, pause, elect, isElected, called, centre, without}
 use Rattle.replay.specs.Runs.{firstPrice, nextPrice, printAt, residual, settleOf, settle, electAt, centreIf, run, runOf, turnOf, turn, turns, work, busy}
 use Rattle.replay.proofs.Lists.{length-append, length-map}
-use Rattle.replay.proofs.Prices.{Among, meet}
 use Rattle.replay.proofs.Moves.{Waits}
 use Rattle.replay.proofs.Runs.{Sound, look-number, turn-sound}
 use Rattle.replay.proofs.Rolls.{dealt-is}

@@ -1,15 +1,14 @@
 -- Two days that differ only in price and shares of hidden stops stay alike while no hidden stop is elected.
 use mathlib.Core.Path.{_≡_, refl, sym, ap, subst, _∙_, fun-ext}
-use mathlib.Core.Bool.{Bool, true, false, cond, not, _&&_, _||_}
+use mathlib.Core.Bool.{Bool, true, false, cond, _&&_, _||_}
 use mathlib.Core.List.{List, [], _∷_, _++_, map}
 use mathlib.Core.Logic.{_⊎_, inl, inr, ⊎-elim}
-use Prim.Native.Nat.{ℕ, zero, suc, _+_, _-_, _*_, _%_, _≤_, _<_, min}
+use Prim.Native.Nat.{ℕ, zero, suc, _+_, _-_, min}
 use native.Mathlib.Omega.{arith}
-use lib.ListN.{length}
-use lib.Dec.{leb, ltb, eqb}
+use lib.Dec.{leb, eqb}
 use Rattle.std.specs.declared.option.Option.{Option}
 use Rattle.std.specs.declared.option.Option.the-variants.{Some, None}
-use Rattle.std.proofs.shelf.Tests.{false≢true, ne-eqb}
+use Rattle.std.proofs.shelf.Tests.{false≢true}
 use Rattle.std.specs.shelf.Lists.{All, Each}
 use Rattle.market.specs.declared.words.Side.{Side}
 use Rattle.market.specs.declared.words.Kind.{Kind}
@@ -19,20 +18,19 @@ use Rattle.market.specs.declared.words.Place.the-variants.{Book, Line, StopFile
 use Rattle.market.specs.declared.words.Order.{Order}
 use Rattle.market.specs.declared.words.Range.{Range}
 use Rattle.market.specs.declared.words.TapeLine.{TapeLine}
-use Rattle.market.specs.declared.words.TapeLine.the-variants.{Print, Cancel, Elect, Floor}
-use Rattle.market.specs.Sides.{opposite, sameSide, better, asGood}
+use Rattle.market.specs.declared.words.TapeLine.the-variants.{Print, Cancel, Elect}
+use Rattle.market.specs.Sides.{opposite}
 use Rattle.market.specs.Orders.{restsOn, isBook, whereWith, fill, cancel, put, inLimit}
 use Rattle.market.specs.Ranges.{inRange, rangeAround}
 use Rattle.sharing.specs.Shares.{LawfulRule}
 use Rattle.replay.specs.Lists.{only, total, those, kept, any}
 use Rattle.replay.specs.Days.{Day, Rule}
-use Rattle.replay.specs.Rolls.{isFiled, isWaiting, look, found, alter, here, left, openOf, filed, placeOf}
+use Rattle.replay.specs.Rolls.{look, found, alter, here, left, openOf, placeOf}
 use Rattle.replay.specs.Book.{best, isAt, isBetter, isUpTo, ahead, row, depth, prices, isContra, isReached}
-use Rattle.replay.specs.Moves.{lowOf, highOf, deal, part, after, size, trade, leave, withdraw, rest, pause, elect, isElected, called, centre, without, dealt}
-use Rattle.replay.specs.Runs.{allowed, firstPrice, cleanUp, or, ifLeft, nextPrice, printAt, residual, settleOf, settle, electAt, centreIf, run, runOf, turnOf, turn, turns, work, busy}
+use Rattle.replay.specs.Moves.{lowOf, highOf, deal, after, size, trade, leave, withdraw, rest, pause, elect, isElected, called, centre, without, dealt}
+use Rattle.replay.specs.Runs.{allowed, firstPrice, cleanUp, or, ifLeft, nextPrice, printAt, residual, settleOf, settle, electAt, centreIf, run, runOf, turnOf, turn, turns}
 use Rattle.replay.specs.StopsUnseen.{SameLine, unelected, Unelected}
 use Rattle.replay.proofs.Moves.{Waits}
-use Rattle.replay.proofs.Prices.{Among}
 use Rattle.replay.proofs.Rolls.{Held, look-deal, look-same, no-part}
 use Rattle.replay.proofs.Runs.{Sound, waiter, look-number, turn-sound, fill-number}
 

@@ -1,16 +1,16 @@
 -- Calls on two days that differ only in hidden stops.
-use mathlib.Core.Path.{_≡_, refl, sym, ap, subst, _∙_, fun-ext}
-use mathlib.Core.Bool.{Bool, true, false, cond, not, _&&_, _||_}
-use mathlib.Core.List.{List, [], _∷_, _++_, map}
+use mathlib.Core.Path.{_≡_, refl, sym, ap, subst, _∙_}
+use mathlib.Core.Bool.{Bool, true, false, not, _&&_}
+use mathlib.Core.List.{List, [], _∷_, _++_}
 use mathlib.Core.Logic.{_⊎_, inl, inr, ⊎-elim}
-use Prim.Native.Nat.{ℕ, zero, suc, _+_, _-_, _*_, _%_, _≤_, _<_, min}
+use Prim.Native.Nat.{ℕ, suc, _+_, _-_, _≤_}
 use native.Mathlib.Omega.{arith}
 use lib.ListN.{length}
 use lib.Dec.{leb, ltb, eqb}
 use Rattle.std.specs.declared.option.Option.{Option}
 use Rattle.std.specs.declared.option.Option.the-variants.{Some, None}
-use Rattle.std.proofs.shelf.Tests.{false≢true, ne-eqb}
-use Rattle.std.specs.shelf.Lists.{All, Each}
+use Rattle.std.proofs.shelf.Tests.{ne-eqb}
+use Rattle.std.specs.shelf.Lists.{Each}
 use Rattle.market.specs.declared.words.Side.{Side}
 use Rattle.market.specs.declared.words.Side.the-variants.{Buy, Sell}
 use Rattle.market.specs.declared.words.Kind.{Kind}
@@ -18,27 +18,24 @@ use Rattle.market.specs.declared.words.Kind.the-variants.{Limit, Market, Immedi
 use Rattle.market.specs.declared.words.Place.{Place}
 use Rattle.market.specs.declared.words.Place.the-variants.{Book, Line, StopFile, Nowhere}
 use Rattle.market.specs.declared.words.Order.{Order}
-use Rattle.market.specs.declared.words.TapeLine.{TapeLine}
-use Rattle.market.specs.declared.words.TapeLine.the-variants.{Print, Cancel, Elect, Floor}
-use Rattle.market.specs.Sides.{opposite}
-use Rattle.market.specs.Orders.{restsOn, isBook, put}
+use Rattle.market.specs.declared.words.TapeLine.the-variants.{Floor}
+use Rattle.market.specs.Orders.{restsOn, put}
 use Rattle.market.specs.Ranges.{rangeAround}
 use Rattle.sharing.specs.Shares.{LawfulRule}
 use Rattle.replay.specs.Lists.{only, total, any, beyond}
-use Rattle.replay.specs.Days.{Day, Phase, Loading, Trading, Closed, Rule, Call, Set, LoadLimit, LoadStop, Open, Enter, CancelOrder, FloorTrade, Resume, Close, Answer, Done, Number, Lines, Entered, Refused, Outcome, newDay}
-use Rattle.replay.specs.Rolls.{isFiled, isStop, look, left, isMarket, priceOf, fresh, filed, memberOf, absent, openOf}
-use Rattle.replay.specs.Book.{best, isContra, row, prices}
+use Rattle.replay.specs.Days.{Day, Phase, Loading, Trading, Closed, Rule, Call, Set, LoadLimit, LoadStop, Open, Enter, CancelOrder, FloorTrade, Resume, Close, Number, Lines, Entered, Outcome, newDay}
+use Rattle.replay.specs.Rolls.{isFiled, look, priceOf, fresh, filed, memberOf, absent, openOf}
+use Rattle.replay.specs.Book.{best, isContra, prices}
 use Rattle.replay.specs.Moves.{withdraw, elect, centre, lineWith, admit, setUp, to, floored, resumed}
 use Rattle.replay.specs.Runs.{turns, work, busy, startPlace, joinOf, join}
-use Rattle.replay.specs.Calls.{Check, check, first-of, refusal, need, decided, handed, orderChecks, fileFull, restingAt, onlyIn, isPhase, checks, became, answered, perform, step, after-calls, answers, columnOf}
-use Rattle.replay.specs.Questions.{quote, quoteOf, inForce}
+use Rattle.replay.specs.Calls.{refusal, decided, handed, restingAt, isPhase, checks, became, answered, perform, step, after-calls, columnOf}
+use Rattle.replay.specs.Questions.{quote, quoteOf}
 use Rattle.replay.specs.SharesAddUp.{printOf, cancelOf}
 use Rattle.replay.specs.StopsUnseen.{SameLine, Named, Pair, same, loads, enters, Pairs, SameSeen, AllSeen, StopsUnseen}
 use Rattle.replay.proofs.Lists.{total-push}
-use Rattle.replay.proofs.Rolls.{Good, Held}
-use Rattle.replay.proofs.Moves.{Waits}
+use Rattle.replay.proofs.Rolls.{Held}
 use Rattle.replay.proofs.Runs.{Sound, elect-sound}
-use Rattle.replay.proofs.Calls.{admit-fresh, same-sound, good-shares, start-held, step-sound, passed-limit, passed-stop, passed-enter, new-sound}
+use Rattle.replay.proofs.Calls.{admit-fresh, same-sound, good-shares, start-held, step-sound, passed-stop, passed-enter, new-sound}
 use Rattle.replay.proofs.Unseen.{Aside, Hidden, Alike, Rolls, Same, Twin, Quiet, Found, look-alike, blind-any, same-row, same-best, same-contra, zip-push, withdraw-twin, centre-twin, elect-twin, turns-twin, turns-back, quiet, all-front}
 use Rattle.market.specs.Bounds.{isShares}
 

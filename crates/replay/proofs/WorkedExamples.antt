@@ -1,6 +1,5 @@
 -- The worked examples, computed.
 use mathlib.Core.Path.{refl}
-use Prim.Native.Nat.{ℕ}
 use Rattle.replay.specs.Rolls.{look, alter, left, fresh}
 use Rattle.replay.specs.Book.{ahead, depth, row, prices}
 use Rattle.replay.specs.Moves.{deal, taken, size, trade, leave, withdraw, rest, pause, centre, resumed, floored, setUp, to, elect, admit}

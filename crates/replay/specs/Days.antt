@@ -1,11 +1,11 @@
 -- A trading day by what it means: the roll of orders with their places, who is in line, and what is in force. Assumes nothing.
 -- Book and stop file are no parts of a day: they are read off the roll. So there is one truth about each order, and as the roll is
 -- in order of number, "the order that came first" is the one that stands first.
-use mathlib.Core.Bool.{Bool, true, false}
+use mathlib.Core.Bool.{Bool, false}
 use mathlib.Core.List.{List, []}
 use Prim.Native.Nat.{ℕ}
 use Rattle.std.specs.declared.option.Option.{Option}
-use Rattle.std.specs.declared.option.Option.the-variants.{Some, None}
+use Rattle.std.specs.declared.option.Option.the-variants.{None}
 use Rattle.market.specs.declared.words.Side.{Side}
 use Rattle.market.specs.declared.words.Kind.{Kind}
 use Rattle.market.specs.declared.words.Column.{Column}

@@ -15,5 +15,7 @@ pub mod Lines
 pub mod RangeStays
 pub mod StopsUnseen
 pub mod TwoRules
+pub mod Bounds
+pub mod History
 pub mod RollHolds
 pub mod Examples

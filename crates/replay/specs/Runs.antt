@@ -1,5 +1,5 @@
 -- How an order runs, and how the line is worked off. Assumes nothing.
-use mathlib.Core.Bool.{Bool, true, false, _&&_}
+use mathlib.Core.Bool.{Bool, true, false}
 use mathlib.Core.List.{List, [], _∷_}
 use Prim.Native.Nat.{ℕ, zero, suc, _+_}
 use lib.ListN.{length}
@@ -10,7 +10,7 @@ use Rattle.market.specs.declared.words.Side.{Side}
 use Rattle.market.specs.declared.words.Kind.{Kind}
 use Rattle.market.specs.declared.words.Kind.the-variants.{Limit, Market, ImmediateOrCancel, Stop}
 use Rattle.market.specs.declared.words.Place.{Place}
-use Rattle.market.specs.declared.words.Place.the-variants.{Nowhere, Book, Line, StopFile}
+use Rattle.market.specs.declared.words.Place.the-variants.{Book, Line, StopFile}
 use Rattle.market.specs.declared.words.Order.{Order}
 use Rattle.market.specs.declared.words.Range.{Range}
 use Rattle.market.specs.Sides.{opposite}

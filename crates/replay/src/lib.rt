@@ -1,8 +1,10 @@
 // The rules of a trading day stand in specs/ as definitions that compute. Each function here carries one law over every day,
 // every lawful share-out rule, every capacity of the stop file and every list of calls: without its proof the crate is refused.
 ghost use Rattle.replay.specs.BookInOrder.{BookInOrder};
+ghost use Rattle.replay.specs.Bounds.{NumbersInBounds};
 ghost use Rattle.replay.specs.Elections.{ElectedByFirst, StopsAreFiled};
 ghost use Rattle.replay.specs.Examples.{Examples};
+ghost use Rattle.replay.specs.History.{HistoryUnread};
 ghost use Rattle.replay.specs.Lines.{NeverShort, TapeSuffices, WorkedOff};
 ghost use Rattle.replay.specs.RangeStays.{RangeBegins, RangeStays};
 ghost use Rattle.replay.specs.RollHolds.{RollHolds};
@@ -97,6 +99,20 @@ pub fn both_rules_are_lawful() -> u8
 // The orders of a day are numbered in turn, and the roll holds 512 of them.
 pub fn roll_holds_512() -> u8
     ensures { λ _. ⌜ RollHolds ⌝ }
+{
+    0
+}
+
+// No rule looks at the tape: calls on a day without its history give the same answers and lines.
+pub fn history_is_not_read() -> u8
+    ensures { λ _. ⌜ HistoryUnread ⌝ }
+{
+    0
+}
+
+// Prices, members, class, last sale and range stay within what the market takes.
+pub fn numbers_in_bounds() -> u8
+    ensures { λ _. ⌜ NumbersInBounds ⌝ }
 {
     0
 }
