@@ -1,7 +1,7 @@
 // Where a text is cut: lines at byte 10, fields at byte 9.
 ghost use mathlib.Core.Path.{_≡_};
-ghost use Prim.Native.Nat.{ℕ, _+_, _-_, _<_, _≤_};
-ghost use lib.ListN.{length, drop, take};
+ghost use Prim.Native.Nat.{_<_, _≤_};
+ghost use lib.ListN.{length};
 ghost use Rattle.text.specs.Cuts.{upTo, past, marks};
 
 // How many bytes stand before the first mark.

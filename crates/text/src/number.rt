@@ -1,7 +1,5 @@
 // Numbers in the fields of a line.
 ghost use mathlib.Core.Path.{_≡_};
-ghost use Prim.Native.Nat.{_≤_};
-ghost use Rattle.std.specs.Options.{Cases as BySome};
 ghost use Rattle.text.specs.Numbers.{numberIn};
 
 // The number that a field writes: 0, or 1 to 7 digits without a leading zero.

@@ -1,9 +1,7 @@
 // Reading a day line: the record and the unread rest, or the fault.
 ghost use mathlib.Core.Path.{_≡_};
-ghost use Rattle.text.specs.Cuts.{marks, upTo, past};
-ghost use Rattle.text.specs.Reading.{setIn, pricedIn, marketIn, pairIn, fieldsAs, recordIn, readOf, seen, faultAt};
-ghost use Rattle.std.specs.Results.{Cases as ByOk};
-ghost use Rattle.std.specs.declared.result.Result.the-variants.{Ok, Err};
+ghost use Rattle.text.specs.Cuts.{past};
+ghost use Rattle.text.specs.Reading.{setIn, pricedIn, marketIn, pairIn, fieldsAs, recordIn, readOf, seen};
 ghost use Rattle.text.specs.RoundTrips.{WritesBack};
 use crate::cut::count_marks;
 use crate::cut::split_at_mark;
