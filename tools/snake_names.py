@@ -15,6 +15,7 @@ import sys
 BREAK = r"\s(){}\[\];,.«»\"⌜⌝λ"
 TOKEN = re.compile(rf"[^{BREAK}]+")
 SIGNATURE = re.compile(rf"^\s*(?:abbrev |unfoldable |pub |private )*([^{BREAK}]+) :(?: (.*))?$")
+FROM = re.compile(r"^(?:pub )?(?:ghost )?use ([^\s{]+)\.\{([^}]*)\}", re.M)
 MADE = re.compile(r"^use Rattle\.\w+\.proofs\.\S*\.(?:Goals|Given)\.\{([^}]*)\}", re.M)
 
 NONE = frozenset()
@@ -68,13 +69,13 @@ def declared():
     return names
 
 
-def turned(text, pairs, kept, is_code):
+def turned(text, pairs, kept, is_code, has_steps):
     out, last = [], 0
     for m in TOKEN.finditer(text):
         name = m.group(0)
         if name not in pairs or name in kept:
             continue
-        if "-" in name and (is_code and "ghost" not in line_of(text, m.start()) or kept is not NONE and of_the_check(text, m.start())):
+        if "-" in name and (is_code and "ghost" not in line_of(text, m.start()) or has_steps and of_the_check(text, m.start())):
             continue
         out += [text[last : m.start()], pairs[name]]
         last = m.end()
@@ -89,6 +90,16 @@ def of_the_check(text, at):
 
 def line_of(text, at):
     return text[text.rfind("\n", 0, at) + 1 : text.find("\n", at)]
+
+
+def library_names(text, crates):
+    """The names that a file brings in from outside the repository, as the library spells them."""
+    names = set()
+    for m in FROM.finditer(text):
+        path = m.group(1).split(".")
+        if path[0] != "Rattle" or path[1] not in crates:
+            names |= {w.split(" as ")[0].strip() for w in m.group(2).split(",")}
+    return names
 
 
 def made_names(text):
@@ -113,10 +124,11 @@ def main(argv):
         for s, g in sorted(bad.items()):
             print("together:", s, *sorted(g))
         return 0
+    crates = set(os.listdir("crates"))
     for path in [*files(".antt"), *files(".rt"), *files(".edit")]:
         text = read(path)
-        kept = made_names(text) if is_answers(path) else NONE
-        new = turned(text, pairs, kept, path.endswith((".rt", ".edit")))
+        kept = library_names(text, crates) | (made_names(text) if is_answers(path) else NONE)
+        new = turned(text, pairs, kept, path.endswith((".rt", ".edit")), is_answers(path))
         if new != text:
             with open(path, "w", encoding="utf-8") as f:
                 f.write(new)

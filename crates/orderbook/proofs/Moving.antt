@@ -3,7 +3,7 @@ use Rattle.std.proofs.Common.{◌≡◌, ℕ, suc, ◌+◌, ◌-◌, ◌<◌, �
 use native.Mathlib.Nat.{sub-zero}
 use Rattle.std.specs.List.{AllZip}
 use Rattle.std.proofs.ByRecursion.{All-push}
-use Rattle.std.proofs.lemmas.List.{length_push, length_map}
+use Rattle.std.proofs.lemmas.List.{length_push, length-map}
 use Rattle.std.proofs.lemmas.Bool.{and_left, and_from, both_ways, false≢true, eqb-true, eqb-false, lt-ltb, le-leb}
 use Rattle.std.proofs.lemmas.Bool.Decides.{nat_tests}
 use Rattle.market.specs.declared.words.Side.{Side}
@@ -145,7 +145,7 @@ module _ (c : Side) (n : ℕ) {os : List Order} (s : Sound os) (w : (1 ≤ n) ×
 
   pub rest_room : length (book c os) < 512
   rest_room =
-      let a : length (book c (alter n (put Book) os)) ≡ length (book c os) + 1 = sym (length_map (book c (alter n (put Book) os)) key_of) ∙ ap length rest_book ∙ length_filed (precedes c) (key_of (get_or os (n - 1) blank)) (map key_of (book c os)) ∙ ap (λ m. m + 1) (length_map (book c os) key_of) in
+      let a : length (book c (alter n (put Book) os)) ≡ length (book c os) + 1 = sym (length-map (book c (alter n (put Book) os)) key_of) ∙ ap length rest_book ∙ length_filed (precedes c) (key_of (get_or os (n - 1) blank)) (map key_of (book c os)) ∙ ap (λ m. m + 1) (length-map (book c os) key_of) in
       omega (arith, a, length_book c (alter n (put Book) os), rest_sound.few)
 
   pub rest_tied : {S : Type 0} (t : List (Resting S)) (x : Resting S) → key_in x ≡ key_of (get_or os (n - 1) blank) → Tied c os (keys t)
@@ -168,7 +168,7 @@ front_ok P (Err x) e h = absurd (false≢true e)
 
 -- a table is as long as the book
 pub long_as : {S : Type 0} (c : Side) (os : List Order) (t : List (Resting S)) → Tied c os (keys t) → length t ≡ length (book c os)
-long_as c os t d = sym (length_map t key_in) ∙ ap length d.shows ∙ length_map (book c os) key_of
+long_as c os t d = sym (length-map t key_in) ∙ ap length d.shows ∙ length-map (book c os) key_of
 
 -- a part that is lent for reading
 pub tied_part : {S : Type 0} (c : Side) (os : List Order) (t : List (Resting S)) (n : ℕ) → Tied c os (keys (take n t)) → Tied c os (keys (take (n - 0) t))

@@ -2,7 +2,7 @@
 use Rattle.std.proofs.Common.{◌≡◌, ℕ, zero, suc, ◌+◌, ◌-◌, ◌<◌, ◌≤◌, Bool, true, false, ltb, List, [], ◌∷◌, ◌++◌, map, length, get_or, take, drop, set, Some, None, Option, sym, ap, ◌∙◌, subst, ⊎_elim, arith}
 use Rattle.std.specs.List.{AllByRecursion as All}
 use Rattle.std.proofs.ByRecursion.{All-get_or, All-weaker}
-use Rattle.std.proofs.lemmas.List.{get_or-map, get_or_past, length_map, drop_more, at_drop_all, take_more_set, append_assoc, append-nil, drop_all}
+use Rattle.std.proofs.lemmas.List.{get_or-map, get_or_past, length-map, drop_more, at_drop_all, take_more_set, append_assoc, append-nil, drop_all}
 use Rattle.std.proofs.lemmas.Bool.{cases_lt, lt-ltb, cond-true}
 use Rattle.market.specs.declared.words.Side.{Side}
 use Rattle.market.specs.declared.words.Order.{Order}
@@ -16,7 +16,7 @@ use Rattle.orderbook.proofs.Sorting.{Read, all_read, all_book, length_book, Sort
 
 module _ {S : Type 0} (c : Side) (os : List Order) (t : List (Resting S)) (tied : Tied c os (keys t)) where
   pub as_long : length t ≡ length (book c os)
-  as_long = sym (length_map t key_in) ∙ ap length tied.shows ∙ length_map (book c os) key_of
+  as_long = sym (length-map t key_in) ∙ ap length tied.shows ∙ length-map (book c os) key_of
 
   pub keyed : (i : ℕ) (e : Resting S) → i < length t → key_in (get_or t i e) ≡ key_of (get_or (book c os) i blank)
   keyed i e h =

@@ -1,6 +1,6 @@
 -- Which seat a scan of the tables finds.
 use Rattle.std.proofs.Common.{◌≡◌, ℕ, zero, suc, ◌+◌, ◌<◌, ◌≤◌, Bool, true, false, cond, not, ltb, List, [], ◌∷◌, ◌++◌, map, length, get_or, take, drop, Some, None, Option, sym, refl, ap, ◌∙◌, subst, one-add, arith, take-append-drop}
-use lib.ListN.{length_map}
+use lib.ListN.{length-map}
 use Rattle.std.specs.List.{prefix_len, AllByRecursion as All, slice_get, IsFirstBest}
 use Rattle.std.proofs.ByRecursion.{All-weaker, All-append, All-map, All-from_get_or}
 use Rattle.std.proofs.lemmas.List.{map-append, get_or-map}
@@ -55,7 +55,7 @@ there f (x ∷ xs) zero h e = let z : ◌≡◌ {A = ℕ} 0 1 = cc in omega arit
 there f (x ∷ xs) (suc i) h e = there f xs i (omega arith) e
 
 pub not_there : {X : Type 0} (f : X → Stop) (xs : List X) (i : ℕ) → length xs ≤ i → slice_get (map f xs) i ≡ None
-not_there f xs i h = slice_get_past (map f xs) i (omega (arith, length_map xs f))
+not_there f xs i h = slice_get_past (map f xs) i (omega (arith, length-map xs f))
 
 -- the lowest of some rows ---------------------------------------------------------------------------------------------------
 pub least_of : {X : Type 0} (f : X → Stop) (xs : List X) (b : ℕ) (y : X) → IsFirstBest (λ x z. ltb (f x).number (f z).number) xs (length xs) b → y ≡ get_or xs b y → Least (map f xs) b (f y).number
@@ -63,7 +63,7 @@ least_of f xs b y h is =
     let within = h.0 in
     record {
       which = f y;
-      there = slice_get-get_or (map f xs) b (f y) (omega (arith, length_map xs f)) ∙ ap (λ (z : Stop). Some z) (get_or-map f xs b y (f y) within ∙ ap f (sym is));
+      there = slice_get-get_or (map f xs) b (f y) (omega (arith, length-map xs f)) ∙ ap (λ (z : Stop). Some z) (get_or-map f xs b y (f y) within ∙ ap f (sym is));
       called = refl;
       least = All-map (λ u. (f y).number ≤ u.number) f xs (All-from_get_or (λ x. (f y).number ≤ (f x).number) xs y (λ i l. subst (λ z. (f z).number ≤ (f (get_or xs i y)).number) (sym is) (ltb-false (f (get_or xs i y)).number (f (get_or xs b y)).number (h.1 i y l))));
     }

@@ -1,6 +1,6 @@
 -- A loop that takes stops out of a file and writes their numbers.
 use Rattle.std.proofs.Common.{◌≡◌, ℕ, suc, ◌+◌, ◌-◌, ◌<◌, ◌≤◌, min, Bool, not, List, [], ◌∷◌, ◌++◌, map, length, take, drop, set, Some, None, filter, sym, ap, ◌∙◌, append_assoc, arith, length-set, take-append-drop}
-use Rattle.std.proofs.lemmas.List.{take_more_set, drop-set-lt, drop-drop, take_all, take_at, take-map, append-nil, length_append, length_map, length-take-le}
+use Rattle.std.proofs.lemmas.List.{take_more_set, drop-set-lt, drop-drop, take_all, take_at, take-map, append-nil, length-append, length-map, length-take-le}
 use Rattle.market.specs.declared.words.Stop.{Stop}
 use Rattle.stops.specs.Stops.{first_by, without_by, without_first}
 use Rattle.stops.proofs.Firsts.{kept_more, without_more, untaken, all_gone}
@@ -46,7 +46,7 @@ module _ {t : Stop → Bool} {ss us : List Stop} {ms ns : List ℕ} {n : ℕ} wh
       let longs = k.long in
       let inside = k.within in
       let all : n ≡ length ms = omega arith in
-      let sum = sym (length_append (take n ns) (numbers_of (filter t us))) ∙ ap length k.written ∙ length_map (filter t ss) (λ s. s.number) in
+      let sum = sym (length-append (take n ns) (numbers_of (filter t us))) ∙ ap length k.written ∙ length-map (filter t ss) (λ s. s.number) in
       let front = length-take-le n ns (omega arith) in
       let none : length ms - n ≡ 0 = omega arith in
       let is : us ≡ without_first (length ms) t ss = ap (λ (m : ℕ). without_first m t us) (sym none) ∙ k.left in
@@ -67,7 +67,7 @@ module _ {t : Stop → Bool} {ss us : List Stop} {ms ns : List ℕ} {n : ℕ} wh
       let u = untaken t us (sym none) in
       let whole : take n ns ≡ numbers_of (filter t ss) = sym (append-nil (take n ns)) ∙ ap (λ (l : List Stop). take n ns ++ numbers_of l) (sym u.kept) ∙ k.written in
       let front = length-take-le n ns (omega arith) in
-      let count : n ≡ length (filter t ss) = sym front ∙ ap length whole ∙ length_map (filter t ss) (λ s. s.number) in
+      let count : n ≡ length (filter t ss) = sym front ∙ ap length whole ∙ length-map (filter t ss) (λ s. s.number) in
       let here : vs ≡ without_first (length ms) t ss = is ∙ u.same ∙ sym (u.whole (length ms - n)) ∙ k.left in
       record {
         value = omega arith;

@@ -1,7 +1,7 @@
 -- What the price file holds.
 use Rattle.std.specs.Prelude.{◌≡◌, suc, ◌+◌, ◌≤◌, Bool, true, false, cond, List, [], ◌∷◌, map, length, take, refl}
-use Rattle.std.proofs.Common.{ap, ◌∙◌, arith, length-take, length_append}
-use Rattle.std.proofs.lemmas.List.{length_map}
+use Rattle.std.proofs.Common.{ap, ◌∙◌, arith, length-take, length-append}
+use Rattle.std.proofs.lemmas.List.{length-map}
 use Rattle.market.specs.Files.{filed}
 use Rattle.market.specs.declared.words.Stop.{Stop}
 use Rattle.stops.specs.declared.ranks.BuyStop.{BuyStop}
@@ -35,8 +35,8 @@ pub length_held : (f : PriceFile) → length (by_number (held_by f)) ≡ f.buyin
 length_held f =
     let l = f.long in
     let w = f.within in
-    length_by_number (held_by f) ∙ length_append (map buy_of (buys_of f)) (map sell_of (sells_of f))
-    ∙ omega (arith, length_map (buys_of f) buy_of, length_map (sells_of f) sell_of, length-take f.buying f.buys, length-take f.selling f.sells)
+    length_by_number (held_by f) ∙ length-append (map buy_of (buys_of f)) (map sell_of (sells_of f))
+    ∙ omega (arith, length-map (buys_of f) buy_of, length-map (sells_of f) sell_of, length-take f.buying f.buys, length-take f.selling f.sells)
 
 pub held_fits : (f : PriceFile) → length (by_number (held_by f)) ≤ 512
 held_fits f = omega (arith, length_held f, f.within)
