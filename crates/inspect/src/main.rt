@@ -1,4 +1,6 @@
 // Shows a day file, given on standard input, line by line: what was read, and which lines are refused and why.
+#![tactic(auto)]
+
 use std::io;
 use std::io::{Read, Write};
 use text::inspection::{INPUT_LIMIT, inspect};

@@ -1,3 +1,5 @@
 // Good and damaged day lines, each with what reading must answer.
+#![tactic(auto)]
+
 #[cfg(test)]
 mod table;

@@ -22,9 +22,9 @@ pub trait Ranked: Copy {
 // Without a free slot the file refuses it and stays as it is.
 pub fn insert<T: Ranked>(file: &mut [T], held: usize, newcomer: T) -> Result<usize, Full>
     ensures room { is_ok result ≡ nat_lt held (length file.old) }
-    ensures slots { MatchResult result (λ at. (at ≡ ahead before newcomer (take held file.old)) × (file.new ≡ filed before newcomer (take held file.old) ++ drop (held + 1) file.old)) (λ _. file.new ≡ file.old) }
-    ensures front { OnOk result (take (held + 1) file.new ≡ filed before newcomer (take held file.old)) }
-    ensures lawful { OnOk result (Filing before newcomer (take held file.old) (take (held + 1) file.new)) }
+    ensures slots { MatchResult result (λ at. (at ≡ ahead T.before newcomer (take held file.old)) × (file.new ≡ filed T.before newcomer (take held file.old) ++ drop (held + 1) file.old)) (λ _. file.new ≡ file.old) }
+    ensures front { OnOk result (take (held + 1) file.new ≡ filed T.before newcomer (take held file.old)) }
+    ensures lawful { OnOk result (Filing T.before newcomer (take held file.old) (take (held + 1) file.new)) }
 {
     if held >= file.len() {
         return Err(Full);
@@ -48,7 +48,7 @@ pub fn remove_at<T: Copy>(file: &mut [T], held: usize, at: usize) -> Option<T>
 
 // How many records of a file stand ahead of a newcomer.
 fn place_of<T: Ranked>(file: &[T], newcomer: &T) -> usize
-    ensures place { result ≡ ahead before newcomer.now file.now }
+    ensures place { result ≡ ahead T.before newcomer.now file.now }
     ensures within { result ≤ length file.now }
 {
     for (i, y) in file.iter().enumerate() {
@@ -61,10 +61,10 @@ fn place_of<T: Ranked>(file: &[T], newcomer: &T) -> usize
 
 fn put_in<T: Ranked>(file: &mut [T], held: usize, newcomer: T) -> usize
     requires { held < length file.old }
-    ensures place { result ≡ ahead before newcomer (take held file.old) }
-    ensures slots { file.new ≡ filed before newcomer (take held file.old) ++ drop (held + 1) file.old }
-    ensures front { take (held + 1) file.new ≡ filed before newcomer (take held file.old) }
-    ensures lawful { Filing before newcomer (take held file.old) (take (held + 1) file.new) }
+    ensures place { result ≡ ahead T.before newcomer (take held file.old) }
+    ensures slots { file.new ≡ filed T.before newcomer (take held file.old) ++ drop (held + 1) file.old }
+    ensures front { take (held + 1) file.new ≡ filed T.before newcomer (take held file.old) }
+    ensures lawful { Filing T.before newcomer (take held file.old) (take (held + 1) file.new) }
 {
     let at = place_of(&file[0..held], &newcomer);
     file[held] = newcomer;

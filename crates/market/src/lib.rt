@@ -1,3 +1,5 @@
+#![tactic(auto)]
+
 pub mod bounds;
 pub mod change;
 pub mod file;

@@ -1,4 +1,6 @@
 // Worked examples of the market's parts.
+#![tactic(auto)]
+
 #[cfg(test)]
 mod parts;
 #[cfg(test)]

@@ -1,4 +1,6 @@
 // The orders of a day: the roll, and on each side the resting orders in order of precedence.
+#![tactic(auto)]
+
 pub mod book;
 mod deal;
 mod rows;

@@ -1,4 +1,6 @@
 // Replays a whole list of calls on a new day.
+#![tactic(auto)]
+
 pub mod call;
 pub mod reply;
 pub mod report;

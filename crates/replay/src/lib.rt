@@ -1,5 +1,7 @@
 // The rules of a trading day stand in specs/ as definitions that compute. Each function here carries one law over every day,
 // every lawful share-out rule, every capacity of the stop file and every list of calls: without its proof the crate is refused.
+#![tactic(auto)]
+
 ghost use Rattle.replay.specs.BookInOrder.{BookInOrder};
 ghost use Rattle.replay.specs.Bounds.{NumbersInBounds};
 ghost use Rattle.replay.specs.Elections.{ElectedByFirst, StopsAreFiled};

@@ -1,4 +1,6 @@
 // Rules by which a quantity that trades at one price is shared out over the orders that rest there.
+#![tactic(auto)]
+
 pub mod example;
 pub mod rotation;
 pub mod rule;

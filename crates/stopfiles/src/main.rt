@@ -1,4 +1,6 @@
 // Drives the stop file by arrival and the one by price through the same calls, and says whether they agree.
+#![tactic(auto)]
+
 mod calls;
 mod drive;
 

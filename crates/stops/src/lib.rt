@@ -1,3 +1,5 @@
+#![tactic(auto)]
+
 pub mod arrival;
 pub mod price;
 mod ranks;

@@ -1,3 +1,5 @@
+#![tactic(auto)]
+
 mod compose;
 mod cut;
 mod field;
