@@ -1,8 +1,8 @@
 -- What a turn of a part of a slice leaves. Assumes nothing.
-use Rattle.std.proofs.Common.{◌≡◌, ℕ, suc, ◌+◌, ◌-◌, ◌<◌, ◌≤◌, List, [], ◌∷◌, ◌++◌, length, get_or, take, drop, set, sym, refl, ap, ◌∙◌, subst, append_assoc, add-one, arith, length-append, length-take, drop-cons}
+use Rattle.std.proofs.Common.{◌≡◌, ℕ, suc, ◌+◌, ◌-◌, ◌<◌, ◌≤◌, List, [], ◌∷◌, ◌++◌, length, get_or, take, drop, set, sym, refl, ap, ◌∙◌, subst, append_assoc, arith, drop-cons}
 use borrow.Rule.Slice.PartMut.{put_mid}
 use Rattle.std.specs.List.{between, insert, remove}
-use Rattle.std.proofs.lemmas.List.{take_more_set, take-set-le, drop-set-lt, drop-drop, drop_at, take_at, drop-append-le, take-take, length-take-le, length_push, drop_more, get_or-take}
+use Rattle.std.proofs.lemmas.List.{take_more_set, take-set-le, drop-set-lt, drop-drop, drop_at, take_at, drop-append-le, take-take, length-take-le, length_push, get_or-take}
 use Rattle.std.proofs.lemmas.Slice.{between_is}
 
 module _ {X : Type 0} (items : List X) (len at : ℕ) where

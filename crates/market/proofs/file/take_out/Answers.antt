@@ -16,9 +16,9 @@ returns g c =
     let is = c.index-file-at.is in
     let there = c.requires.there in
     let within = c.requires.within in
-    let after = put_mid at (held - at) items c.rotate-left.new.self in
+    let after = put_mid at (held - at) items c.rotate_left.new.self in
     let n = length-take-le held items within in
-    let file : after ≡ remove (take held items) at ++ (x ∷ drop held items) = turned_out items held at x _ there within is c.rotate-left.ensures.after in
+    let file : after ≡ remove (take held items) at ++ (x ∷ drop held items) = turned_out items held at x _ there within is c.rotate_left.ensures.after in
     record {
       taken = slice_get_read (take held items) (length (take held items)) at x refl (omega arith) (is ∙ sym (get_or-take held items at x there));
       slots = file;
