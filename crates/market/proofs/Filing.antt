@@ -1,7 +1,7 @@
 -- What filing a record does. Assumes nothing.
 use Rattle.std.proofs.Common.{◌≡◌, ℕ, zero, suc, ◌+◌, ◌-◌, ◌<◌, ◌≤◌, Bool, true, false, cond, not, List, [], ◌∷◌, ◌++◌, length, get_or, take, drop, sym, refl, ap, ◌∙◌, subst, ⊎_elim, one-add, arith}
 use Rattle.std.specs.List.Sorted.{IsPermutation}
-use Rattle.std.specs.List.{insert, remove, AllByRecursion as All}
+use Rattle.std.specs.List.{insert, remove, AllByRecursion}
 use Rattle.std.proofs.lemmas.List.Edits.{length-insert, length-remove}
 use Rattle.std.proofs.lemmas.List.{take_at, get_or-take, length-take-le}
 use Rattle.std.proofs.ByRecursion.{All-weaker, All-append, All-take, All-drop}
@@ -41,10 +41,10 @@ module _ {X : Type 0} (before : X → X → Bool) where
       ]
 
   -- what holds of x and of each record holds of each record once x is filed
-  all_filed : (P : X → Type 0) (x : X) (xs : List X) → P x → All P xs → All P (filed before x xs)
+  all_filed : (P : X → Type 0) (x : X) (xs : List X) → P x → AllByRecursion P xs → AllByRecursion P (filed before x xs)
   all_filed P x [] h a = (h, tt)
   all_filed P x (y ∷ ys) h a =
-      elim (before x y) as (λ b. All P (cond b (x ∷ y ∷ ys) (y ∷ filed before x ys)))
+      elim (before x y) as (λ b. AllByRecursion P (cond b (x ∷ y ∷ ys) (y ∷ filed before x ys)))
       [ true ↦ (h, a) | false ↦ (a.0, all_filed P x ys h a.1) ]
 
   pub length_filed : (x : X) (xs : List X) → length (filed before x xs) ≡ length xs + 1

@@ -1,6 +1,6 @@
 -- Files of records in order of precedence, for any kind of record. Assumes nothing.
 use Rattle.std.specs.Prelude.{◌≡◌, ℕ, Bool, true, false, cond, not, ◌&&◌, ◌||◌, List, [], ◌∷◌, ◌==◌, nat_lt}
-use Rattle.std.specs.List.{prefix_len, AllByRecursion as All}
+use Rattle.std.specs.List.{prefix_len, AllByRecursion}
 use Rattle.std.specs.List.Sorted.{IsPermutation}
 
 -- of two records at most one precedes the other, and what precedes a record precedes all that it precedes
@@ -20,7 +20,7 @@ ahead before x xs = prefix_len (λ y. not (before x y)) xs
 -- no record precedes one that stands ahead of it
 abbrev pub InOrder : {X : Type 0} → (X → X → Bool) → List X → Type 0
 InOrder before [] = Unit {0}
-InOrder before (x ∷ xs) = All (λ y. before y x ≡ false) xs × InOrder before xs
+InOrder before (x ∷ xs) = AllByRecursion (λ y. before y x ≡ false) xs × InOrder before xs
 
 -- once x is filed in xs, ys is in order if xs was, and holds x and the records of xs, no more and no fewer
 pub record Filing {X : Type 0} (before : X → X → Bool) (x : X) (xs ys : List X) : Type 0 where

@@ -1,6 +1,6 @@
 -- A print dealt out through the table, one row after the other, and over the roll: the same.
 use Rattle.std.proofs.Common.{◌≡◌, ℕ, zero, suc, ◌+◌, ◌-◌, ◌<◌, ◌≤◌, Bool, true, false, cond, ◌&&◌, eqb, List, [], ◌∷◌, map, length, get_or, drop, set, sym, refl, ap, ◌∙◌, subst, ⊎_elim, arith}
-use Rattle.std.specs.List.{AllZip, AllByRecursion as All}
+use Rattle.std.specs.List.{AllZip, AllByRecursion}
 use Rattle.std.proofs.lemmas.List.{drop_more, drop_all, length-set, get_or-set_other}
 use Rattle.std.proofs.lemmas.Bool.{both_ways, cases_lt, eq-eqb, ne_eqb, lt-ltb, le-leb, and_from}
 use Rattle.std.proofs.lemmas.Bool.Decides.{nat_tests}
@@ -70,7 +70,7 @@ alter_same n f (o ∷ os) e = go (eqb o.number n) (alter_same n f os e)
     go false ih = ap (λ l. o ∷ l) ih
 
 -- an order with a lower number than all of t stays as it is
-applied_past : (c : Side) (p : ℕ) (t : List Order) (gs : List ℕ) (u : Order) (os : List Order) → All (λ x. suc u.number ≤ x.number) t → applied c p t gs (u ∷ os) ≡ u ∷ applied c p t gs os
+applied_past : (c : Side) (p : ℕ) (t : List Order) (gs : List ℕ) (u : Order) (os : List Order) → AllByRecursion (λ x. suc u.number ≤ x.number) t → applied c p t gs (u ∷ os) ≡ u ∷ applied c p t gs os
 unfolding applied
 applied_past c p [] gs u os a = refl
 applied_past c p (x ∷ t) gs u os a =
@@ -78,7 +78,7 @@ applied_past c p (x ∷ t) gs u os a =
     ∙ applied_past c p t (after (eqb x.price p) gs) u (alter x.number (dealt (better c x.price p) (eqb x.price p) gs) os) a.1
 
 -- an order filed among those with higher numbers takes the first gift
-applied_filed : (c : Side) (p : ℕ) (o : Order) (t : List Order) (gs : List ℕ) (os : List Order) → All (λ x. suc o.number ≤ x.number) t
+applied_filed : (c : Side) (p : ℕ) (o : Order) (t : List Order) (gs : List ℕ) (os : List Order) → AllByRecursion (λ x. suc o.number ≤ x.number) t
     → applied c p (filed (before c) o t) gs (o ∷ os) ≡ dealt (better c o.price p) (eqb o.price p) gs o ∷ applied c p t (after (eqb o.price p) gs) os
 unfolding applied
 applied_filed c p o [] gs os a = alter_first o.number (dealt (better c o.price p) (eqb o.price p) gs) o os refl
@@ -106,7 +106,7 @@ applied_filed c p o (y ∷ ys) gs os a = go (before c o y) refl (applied_filed c
     go true h ih =
         ap (applied c p (y ∷ ys) (after (eqb o.price p) gs)) (alter_first o.number (dealt bo (eqb o.price p) gs) o os refl)
         ∙ applied_past c p (y ∷ ys) (after (eqb o.price p) gs) (dealt bo (eqb o.price p) gs o) os
-        (subst (λ n. All (λ x. suc n ≤ x.number) (y ∷ ys)) (sym (dealt_number bo (eqb o.price p) gs o)) a)
+        (subst (λ n. AllByRecursion (λ x. suc n ≤ x.number) (y ∷ ys)) (sym (dealt_number bo (eqb o.price p) gs o)) a)
     go false h ih =
         ap (applied c p (filed (before c) o ys) (after (eqb y.price p) gs)) (alter_past y.number (dealt by (eqb y.price p) gs) o os a.0)
         ∙ ih
@@ -117,8 +117,8 @@ unfolding book deal applied
 applied_book c p k [] gs h = refl
 applied_book c p k (o ∷ os) gs h = go (rests_on c o) (λ gs. applied_book c p (suc k) os gs h.1)
   where
-    low : All (λ u. suc o.number ≤ u.number) (book c os)
-    low = subst (λ m. All (λ u. suc m ≤ u.number) (book c os)) (sym h.0) (above_book c (suc k) os h.1)
+    low : AllByRecursion (λ u. suc o.number ≤ u.number) (book c os)
+    low = subst (λ m. AllByRecursion (λ u. suc m ≤ u.number) (book c os)) (sym h.0) (above_book c (suc k) os h.1)
 
     go : (b : Bool) → ((gs : List ℕ) → applied c p (book c os) gs os ≡ deal c p os gs)
         → applied c p (rested c b o (book c os)) gs (o ∷ os) ≡ dealt (b && better c o.price p) (b && eqb o.price p) gs o ∷ deal c p os (after (b && eqb o.price p) gs)
@@ -126,7 +126,7 @@ applied_book c p k (o ∷ os) gs h = go (rests_on c o) (λ gs. applied_book c p 
     go false ih = applied_past c p (book c os) gs o os low ∙ ap (λ l. o ∷ l) (ih gs)
 
 -- behind the price nothing is done
-applied_none : (c : Side) (p : ℕ) (t : List Order) (gs : List ℕ) (os : List Order) → All (λ x. as_good c x.price p ≡ false) t → applied c p t gs os ≡ os
+applied_none : (c : Side) (p : ℕ) (t : List Order) (gs : List ℕ) (os : List Order) → AllByRecursion (λ x. as_good c x.price p ≡ false) t → applied c p t gs os ≡ os
 unfolding applied
 applied_none c p [] gs os a = refl
 applied_none c p (x ∷ t) gs os a =
@@ -140,8 +140,8 @@ applied_none c p (x ∷ t) gs os a =
 pub record Dealing (c : Side) (p : ℕ) (t : List Order) (gs : List ℕ) (os whole : List Order) : Type 0 where
   pub same : applied c p t gs os ≡ whole
   pub ordered : Sorted (before c) t
-  pub reads : All (Read 1 os) t
-  pub sums : All Sums t
+  pub reads : AllByRecursion (Read 1 os) t
+  pub sums : AllByRecursion Sums t
   pub fits : AllZip (λ g n. g ≤ n) gs (map (λ o. o.«open») (those (λ o. eqb o.price p) t))
   pub numbered : Numbered 1 os
 
@@ -185,7 +185,7 @@ module _ {c : Side} {p : ℕ} {x : Order} {t : List Order} {gs : List ℕ} {os w
         is = get_or-set_other os (x.number - 1) (y.number - 1) v blank (λ e. apart (sym e)) ∙ r.is;
       }
 
-  reads_on : (v : Order) (ys : List Order) → All (λ y. before c x y ≡ true) ys → All (Read 1 os) ys → All (Read 1 (set os (x.number - 1) v)) ys
+  reads_on : (v : Order) (ys : List Order) → AllByRecursion (λ y. before c x y ≡ true) ys → AllByRecursion (Read 1 os) ys → AllByRecursion (Read 1 (set os (x.number - 1) v)) ys
   reads_on v [] a b = tt
   reads_on v (y ∷ ys) a b = (others v y a.0 b.0, reads_on v ys a.1 b.1)
 
@@ -202,7 +202,7 @@ module _ {c : Side} {p : ℕ} {x : Order} {t : List Order} {gs : List ℕ} {os w
       record {
         same = ap (applied c p t gs') altered ∙ ap (λ l. applied c p t l (alter x.number (dealt (better c x.price p) (eqb x.price p) gs) os)) (sym f) ∙ d.same;
         ordered = d.ordered.1;
-        reads = subst (λ l. All (Read 1 l) t) (sym set_is) (reads_on (fill q x) t d.ordered.0 d.reads.1);
+        reads = subst (λ l. AllByRecursion (Read 1 l) t) (sym set_is) (reads_on (fill q x) t d.ordered.0 d.reads.1);
         sums = d.sums.1;
         fits = z;
         numbered = subst (Numbered 1) (sym set_is) (numbered_set 1 os (x.number - 1) (fill q x) d.numbered (ap (λ o. o.number) (sym r.is)));

@@ -1,6 +1,6 @@
 -- Laws of filing, over records of any kind.
 use Rattle.std.proofs.Common.{◌≡◌, ℕ, suc, ◌+◌, Bool, true, false, cond, List, [], ◌∷◌, map, length, filter, sym, refl, ap, ◌∙◌, arith}
-use Rattle.std.specs.List.{AllByRecursion as All}
+use Rattle.std.specs.List.{AllByRecursion}
 use Rattle.std.proofs.ByRecursion.{All-weaker, all_kept_by}
 use Rattle.std.proofs.lemmas.Bool.{both_ways}
 use Rattle.market.specs.Files.{filed}
@@ -15,23 +15,23 @@ module _ {X : Type 0} (lt : X → X → Bool) where
       go true ih = refl
       go false ih = omega arith
 
-  pub all_filed : (P : X → Type 0) (x : X) (xs : List X) → P x → All P xs → All P (filed lt x xs)
+  pub all_filed : (P : X → Type 0) (x : X) (xs : List X) → P x → AllByRecursion P xs → AllByRecursion P (filed lt x xs)
   all_filed P x [] h a = (h, tt)
   all_filed P x (y ∷ ys) h a = go (lt x y) (all_filed P x ys h a.1)
     where
-      go : (b : Bool) → All P (filed lt x ys) → All P (cond b (x ∷ y ∷ ys) (y ∷ filed lt x ys))
+      go : (b : Bool) → AllByRecursion P (filed lt x ys) → AllByRecursion P (cond b (x ∷ y ∷ ys) (y ∷ filed lt x ys))
       go true ih = (h, a)
       go false ih = (a.0, ih)
 
   -- before all that it precedes
-  pub filed_first : (x : X) (xs : List X) → All (λ y. lt x y ≡ true) xs → filed lt x xs ≡ x ∷ xs
+  pub filed_first : (x : X) (xs : List X) → AllByRecursion (λ y. lt x y ≡ true) xs → filed lt x xs ≡ x ∷ xs
   filed_first x [] a = refl
   filed_first x (y ∷ ys) a = ap (λ b. cond b (x ∷ y ∷ ys) (y ∷ filed lt x ys)) a.0
 
   -- strictly in order
   abbrev pub Sorted : List X → Type 0
   Sorted [] = Unit {0}
-  Sorted (x ∷ xs) = All (λ y. lt x y ≡ true) xs × Sorted xs
+  Sorted (x ∷ xs) = AllByRecursion (λ y. lt x y ≡ true) xs × Sorted xs
 
   -- a filter that drops x
   pub kept_drop : (keep : X → Bool) (x : X) (xs : List X) → keep x ≡ false → filter keep (filed lt x xs) ≡ filter keep xs

@@ -1,6 +1,6 @@
 -- Questions that the first order of a side decides.
 use Rattle.std.proofs.Common.{◌≡◌, ℕ, Bool, true, false, cond, ◌&&◌, ◌||◌, ltb, ◌⊎◌, List, [], ◌∷◌, Some, None, Option, sym, refl, ap, ◌∙◌, ⊎_elim}
-use Rattle.std.specs.List.{AllByRecursion as All}
+use Rattle.std.specs.List.{AllByRecursion}
 use Rattle.std.proofs.ByRecursion.{All-weaker}
 use Rattle.market.specs.declared.words.Side.{Side}
 use Rattle.market.specs.declared.words.Side.TheVariants.{Buy, Sell}
@@ -45,7 +45,7 @@ any_book c t (o ∷ os) = go (rests_on c o) (any_book c t os)
     go true ih = ap (λ b. t o || b) ih ∙ sym (any_filed (before c) t o (book c os))
     go false ih = ih
 
-any_none : {X : Type 0} (t : X → Bool) (xs : List X) → All (λ x. t x ≡ false) xs → any t xs ≡ false
+any_none : {X : Type 0} (t : X → Bool) (xs : List X) → AllByRecursion (λ x. t x ≡ false) xs → any t xs ≡ false
 any_none t [] a = refl
 any_none t (x ∷ xs) a = ap (λ b. b || any t xs) a.0 ∙ any_none t xs a.1
 

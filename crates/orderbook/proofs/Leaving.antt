@@ -1,6 +1,6 @@
 -- Orders that leave the book, and a table from which their rows were taken.
 use Rattle.std.proofs.Common.{◌≡◌, ℕ, zero, suc, ◌-◌, Bool, true, false, cond, not, ◌&&◌, ◌||◌, List, [], ◌∷◌, map, get_or, set, filter, sym, refl, ap, ◌∙◌, arith}
-use Rattle.std.specs.List.{AllZip, AllByRecursion as All}
+use Rattle.std.specs.List.{AllZip, AllByRecursion}
 use Rattle.std.proofs.lemmas.Bool.{both_ways, false≢true}
 use Rattle.std.proofs.lemmas.List.Elements.{length_all_zip}
 use Rattle.std.proofs.ByRecursion.{All-map}
@@ -73,7 +73,7 @@ numbered_alike k [] (u ∷ us) z h = absurd z
 numbered_alike k (o ∷ os) [] z h = absurd z
 numbered_alike k (o ∷ os) (u ∷ us) z h = (ap (λ (x : Key). x.number) z.0.key ∙ h.0, numbered_alike (suc k) os us z.1 h.1)
 
-sums_alike : (os us : List Order) → AllZip Alike os us → All Sums os → All Sums us
+sums_alike : (os us : List Order) → AllZip Alike os us → AllByRecursion Sums os → AllByRecursion Sums us
 sums_alike [] [] z h = tt
 sums_alike [] (u ∷ us) z h = absurd z
 sums_alike (o ∷ os) [] z h = absurd z
@@ -148,7 +148,7 @@ thin_one c p all o u r k = record {
     go e true f = look_up e
     go e false f = k.far f e
 
-thin_all : (c : Side) (p : ℕ) (all os us : List Order) → All (Read 1 all) us → AllZip (Leaves c p) os us → AllZip (Thinned c (stay_key c p all)) os us
+thin_all : (c : Side) (p : ℕ) (all os us : List Order) → AllByRecursion (Read 1 all) us → AllZip (Leaves c p) os us → AllZip (Thinned c (stay_key c p all)) os us
 thin_all c p all [] [] a z = tt
 thin_all c p all [] (u ∷ us) a z = absurd z
 thin_all c p all (o ∷ os) [] a z = absurd z

@@ -1,6 +1,6 @@
 -- A table that is tied to the roll: what it has at a place, and the steps of a loop over it.
 use Rattle.std.proofs.Common.{◌≡◌, ℕ, zero, suc, ◌+◌, ◌-◌, ◌<◌, ◌≤◌, Bool, true, false, ltb, List, [], ◌∷◌, ◌++◌, map, length, get_or, take, drop, set, Some, None, Option, sym, ap, ◌∙◌, subst, ⊎_elim, arith}
-use Rattle.std.specs.List.{AllByRecursion as All}
+use Rattle.std.specs.List.{AllByRecursion}
 use Rattle.std.proofs.ByRecursion.{All-get_or, All-weaker}
 use Rattle.std.proofs.lemmas.List.{get_or-map, get_or_past, length-map, drop_more, at_drop_all, take_more_set, append_assoc, append-nil, drop_all}
 use Rattle.std.proofs.lemmas.Bool.{cases_lt, lt-ltb, cond-true}
@@ -52,10 +52,10 @@ module _ (c : Side) (os : List Order) (count : Numbered 1 os) (t : Order → Boo
   here : drop i (book c os) ≡ o ∷ drop (i + 1) (book c os)
   here = drop_more (book c os) i blank lt ∙ ap (λ u. u ∷ drop (i + 1) (book c os)) (sym is)
 
-  pub rest_fails : t o ≡ false → All (λ u. t u ≡ false) (drop i (book c os))
+  pub rest_fails : t o ≡ false → AllByRecursion (λ u. t u ≡ false) (drop i (book c os))
   rest_fails e =
       let s : Sorted (before c) (o ∷ drop (i + 1) (book c os)) = subst (Sorted (before c)) here (sorted_drop (before c) i (book c os) (sorted_book c 1 os count)) in
-      subst (λ l. All (λ u. t u ≡ false) l) (sym here) (e, All-weaker (λ u. before c o u ≡ true) (λ u. t u ≡ false) (λ u h. stops o u h e) (drop (i + 1) (book c os)) s.0)
+      subst (λ l. AllByRecursion (λ u. t u ≡ false) l) (sym here) (e, All-weaker (λ u. before c o u ≡ true) (λ u. t u ≡ false) (λ u h. stops o u h e) (drop (i + 1) (book c os)) s.0)
 
   pub sum_more : (f : Order → ℕ) (sum whole : ℕ) → t o ≡ true → sum + total (λ u. only (t u) (f u)) (drop i (book c os)) ≡ whole
       → sum + f o + total (λ u. only (t u) (f u)) (drop (i + 1) (book c os)) ≡ whole
@@ -76,7 +76,7 @@ module _ (xs : List Order) (t : Order → Bool) (f : Order → ℕ) (i : ℕ) (s
     pub sum_no : t o ≡ false → sum + total (λ u. only (t u) (f u)) (drop (i + 1) xs) ≡ whole
     sum_no e = omega (arith, inv, ap (total (λ u. only (t u) (f u))) front, ap (λ b. only b (f o)) e)
 
-  pub sum_rest : All (λ u. t u ≡ false) (drop i xs) → sum ≡ whole
+  pub sum_rest : AllByRecursion (λ u. t u ≡ false) (drop i xs) → sum ≡ whole
   sum_rest a = omega (arith, inv, total_none t f (drop i xs) a)
 
 pub sum_end : {X : Type 0} (f : X → ℕ) (xs : List X) (i sum whole : ℕ) → length xs ≤ i → sum + total f (drop i xs) ≡ whole → sum ≡ whole
@@ -103,7 +103,7 @@ module _ (t : Order → Bool) (xs : List Order) (out whole : List ℕ) (k i : �
         ap (λ b. take k out ++ map (λ o. o.«open») (kept b o (those t (drop (i + 1) xs)))) (sym e)
         ∙ ap (λ l. take k out ++ picked t l) (sym next) ∙ inv
 
-  pub pick_stop : All (λ u. t u ≡ false) (drop i xs) → take k out ≡ whole
+  pub pick_stop : AllByRecursion (λ u. t u ≡ false) (drop i xs) → take k out ≡ whole
   pick_stop a = sym (append-nil (take k out)) ∙ ap (λ l. take k out ++ map (λ o. o.«open») l) (sym (none_those t (drop i xs) a)) ∙ inv
 
   pub pick_end : length xs ≤ i → take k out ≡ whole

@@ -1,6 +1,6 @@
 -- Laws of precedence, and of the book of a side.
 use Rattle.std.proofs.Common.{◌≡◌, ℕ, suc, ◌+◌, ◌-◌, ◌<◌, ◌≤◌, Bool, true, false, cond, ◌&&◌, eqb, List, [], ◌∷◌, map, length, get_or, Some, None, filter, Option, sym, refl, ap, ◌∙◌, subst, arith}
-use Rattle.std.specs.List.{AllByRecursion as All}
+use Rattle.std.specs.List.{AllByRecursion}
 use Rattle.std.proofs.ByRecursion.{All-weaker}
 use Rattle.std.proofs.lemmas.Bool.Decides.{nat_tests}
 use Rattle.market.specs.declared.words.Side.{Side}
@@ -53,21 +53,21 @@ worse_stays Buy a b p h e = grind (arith, nat_tests)
 worse_stays Sell a b p h e = grind (arith, nat_tests)
 
 -- the book -----------------------------------------------------------------------------------------------------------------
-pub all_book : (P : Order → Type 0) (c : Side) (os : List Order) → All P os → All P (book c os)
+pub all_book : (P : Order → Type 0) (c : Side) (os : List Order) → AllByRecursion P os → AllByRecursion P (book c os)
 unfolding book
 all_book P c [] a = tt
 all_book P c (o ∷ os) a = go (rests_on c o) (all_book P c os a.1)
   where
-    go : (b : Bool) → All P (book c os) → All P (rested c b o (book c os))
+    go : (b : Bool) → AllByRecursion P (book c os) → AllByRecursion P (rested c b o (book c os))
     go true ih = all_filed (before c) P o (book c os) a.0 ih
     go false ih = ih
 
-pub all_resting : (c : Side) (os : List Order) → All (λ o. rests_on c o ≡ true) (book c os)
+pub all_resting : (c : Side) (os : List Order) → AllByRecursion (λ o. rests_on c o ≡ true) (book c os)
 unfolding book
 all_resting c [] = tt
 all_resting c (o ∷ os) = go (rests_on c o) refl (all_resting c os)
   where
-    go : (b : Bool) → rests_on c o ≡ b → All (λ u. rests_on c u ≡ true) (book c os) → All (λ u. rests_on c u ≡ true) (rested c b o (book c os))
+    go : (b : Bool) → rests_on c o ≡ b → AllByRecursion (λ u. rests_on c u ≡ true) (book c os) → AllByRecursion (λ u. rests_on c u ≡ true) (rested c b o (book c os))
     go true e ih = all_filed (before c) (λ u. rests_on c u ≡ true) o (book c os) e ih
     go false e ih = ih
 
@@ -95,7 +95,7 @@ pub record Read (k : ℕ) (os : List Order) (o : Order) : Type 0 where
   pub high : o.number < k + length os
   pub is : get_or os (o.number - k) blank ≡ o
 
-pub all_read : (k : ℕ) (os : List Order) → Numbered k os → All (Read k os) os
+pub all_read : (k : ℕ) (os : List Order) → Numbered k os → AllByRecursion (Read k os) os
 all_read k [] h = tt
 all_read k (o ∷ os) h =
     let here : o.number - k ≡ 0 = omega (arith, h.0) in (
@@ -104,10 +104,10 @@ all_read k (o ∷ os) h =
           record { low = omega (arith, r.low); high = omega (arith, r.high); is = ap (λ m. get_or (o ∷ os) m blank) e ∙ r.is }) os (all_read (suc k) os h.1),
     )
 
-pub above : (k : ℕ) (os : List Order) → Numbered k os → All (λ o. k ≤ o.number) os
+pub above : (k : ℕ) (os : List Order) → Numbered k os → AllByRecursion (λ o. k ≤ o.number) os
 above k os h = All-weaker (Read k os) (λ o. k ≤ o.number) (λ o r. r.low) os (all_read k os h)
 
-pub above_book : (c : Side) (k : ℕ) (os : List Order) → Numbered k os → All (λ o. k ≤ o.number) (book c os)
+pub above_book : (c : Side) (k : ℕ) (os : List Order) → Numbered k os → AllByRecursion (λ o. k ≤ o.number) (book c os)
 above_book c k os h = all_book (λ o. k ≤ o.number) c os (above k os h)
 
 -- the first of the book has the best price -----------------------------------------------------------------------------------
@@ -134,7 +134,7 @@ best_book c (o ∷ os) = go (rests_on c o) (best_book c os)
     go false ih = ih
 
 -- the row at a price ---------------------------------------------------------------------------------------------------------
-level_filed : (c : Side) (p : ℕ) (o : Order) (t : List Order) → All (λ u. suc o.number ≤ u.number) t
+level_filed : (c : Side) (p : ℕ) (o : Order) (t : List Order) → AllByRecursion (λ u. suc o.number ≤ u.number) t
     → those (λ u. eqb u.price p) (filed (before c) o t) ≡ kept (eqb o.price p) o (those (λ u. eqb u.price p) t)
 level_filed c p o [] a = refl
 level_filed c p o (y ∷ ys) a = go (before c o y) refl (eqb o.price p) refl (level_filed c p o ys a.1)
@@ -154,8 +154,8 @@ unfolding book
 level_book c p k [] h = refl
 level_book c p k (o ∷ os) h = go (rests_on c o) (level_book c p (suc k) os h.1)
   where
-    low : All (λ u. suc o.number ≤ u.number) (book c os)
-    low = subst (λ m. All (λ u. suc m ≤ u.number) (book c os)) (sym h.0) (above_book c (suc k) os h.1)
+    low : AllByRecursion (λ u. suc o.number ≤ u.number) (book c os)
+    low = subst (λ m. AllByRecursion (λ u. suc m ≤ u.number) (book c os)) (sym h.0) (above_book c (suc k) os h.1)
 
     go : (b : Bool) → those (λ u. eqb u.price p) (book c os) ≡ those (is_at c p) os
         → those (λ u. eqb u.price p) (rested c b o (book c os)) ≡ kept (b && eqb o.price p) o (those (is_at c p) os)
@@ -199,7 +199,7 @@ pub level_sum : (c : Side) (p : ℕ) (os : List Order) → Numbered 1 os → tot
 level_sum c p os h = total_those (λ o. eqb o.price p) (λ o. o.«open») (book c os) ∙ ap (total (λ n. n)) (row_book c p os h)
 
 -- the book is in order -------------------------------------------------------------------------------------------------------
-pub sorted_filed : (c : Side) (o : Order) (t : List Order) → All (λ u. suc o.number ≤ u.number) t → Sorted (before c) t → Sorted (before c) (filed (before c) o t)
+pub sorted_filed : (c : Side) (o : Order) (t : List Order) → AllByRecursion (λ u. suc o.number ≤ u.number) t → Sorted (before c) t → Sorted (before c) (filed (before c) o t)
 sorted_filed c o [] a s = (tt, tt)
 sorted_filed c o (y ∷ ys) a s = go (before c o y) refl (sorted_filed c o ys a.1 s.1)
   where
@@ -212,26 +212,26 @@ unfolding book
 sorted_book c k [] h = tt
 sorted_book c k (o ∷ os) h = go (rests_on c o) (sorted_book c (suc k) os h.1)
   where
-    low : All (λ u. suc o.number ≤ u.number) (book c os)
-    low = subst (λ m. All (λ u. suc m ≤ u.number) (book c os)) (sym h.0) (above_book c (suc k) os h.1)
+    low : AllByRecursion (λ u. suc o.number ≤ u.number) (book c os)
+    low = subst (λ m. AllByRecursion (λ u. suc m ≤ u.number) (book c os)) (sym h.0) (above_book c (suc k) os h.1)
 
     go : (b : Bool) → Sorted (before c) (book c os) → Sorted (before c) (rested c b o (book c os))
     go true ih = sorted_filed c o (book c os) low ih
     go false ih = ih
 
 -- behind a price that does not reach p nothing reaches it
-pub behind : (c : Side) (p : ℕ) (o : Order) (t : List Order) → Sorted (before c) (o ∷ t) → as_good c o.price p ≡ false → All (λ u. as_good c u.price p ≡ false) (o ∷ t)
+pub behind : (c : Side) (p : ℕ) (o : Order) (t : List Order) → Sorted (before c) (o ∷ t) → as_good c o.price p ≡ false → AllByRecursion (λ u. as_good c u.price p ≡ false) (o ∷ t)
 behind c p o t s e = (e, All-weaker (λ u. before c o u ≡ true) (λ u. as_good c u.price p ≡ false) (λ u h. worse_stays c (key_of o) (key_of u) p h e) t s.0)
 
-pub total_none : {A : Type 0} (t : A → Bool) (f : A → ℕ) (xs : List A) → All (λ x. t x ≡ false) xs → total (λ x. only (t x) (f x)) xs ≡ 0
+pub total_none : {A : Type 0} (t : A → Bool) (f : A → ℕ) (xs : List A) → AllByRecursion (λ x. t x ≡ false) xs → total (λ x. only (t x) (f x)) xs ≡ 0
 total_none t f [] a = refl
 total_none t f (x ∷ xs) a = omega (arith, ap (λ b. only b (f x)) a.0, total_none t f xs a.1)
 
-pub none_kept : {A : Type 0} (t : A → Bool) (xs : List A) → All (λ x. t x ≡ false) xs → filter t xs ≡ []
+pub none_kept : {A : Type 0} (t : A → Bool) (xs : List A) → AllByRecursion (λ x. t x ≡ false) xs → filter t xs ≡ []
 none_kept t [] a = refl
 none_kept t (x ∷ xs) a = ap (λ b. cond b (x ∷ filter t xs) (filter t xs)) a.0 ∙ none_kept t xs a.1
 
-pub none_those : {A : Type 0} (t : A → Bool) (xs : List A) → All (λ x. t x ≡ false) xs → those t xs ≡ []
+pub none_those : {A : Type 0} (t : A → Bool) (xs : List A) → AllByRecursion (λ x. t x ≡ false) xs → those t xs ≡ []
 none_those t [] a = refl
 none_those t (x ∷ xs) a = ap (λ b. kept b x (those t xs)) a.0 ∙ none_those t xs a.1
 

@@ -1,6 +1,6 @@
 -- Sums over the whole roll.
 use Rattle.std.proofs.Common.{◌≡◌, ℕ, ◌+◌, ◌*◌, ◌<◌, ◌≤◌, List, [], ◌∷◌, length, get_or, drop, ap, arith}
-use Rattle.std.specs.List.{AllByRecursion as All}
+use Rattle.std.specs.List.{AllByRecursion}
 use Rattle.std.proofs.lemmas.List.{at_drop_more, at_drop_all}
 use Rattle.market.specs.declared.words.Order.{Order}
 use Rattle.market.specs.Changes.{blank}
@@ -47,7 +47,7 @@ whole {os} {i} s le = record {
     end f = at_drop_all (total f) os i le
 
 -- none of the sums is large
-few : (f : Order → ℕ) → ((o : Order) → Sums o → f o ≤ 1000000) → (os : List Order) → All Sums os → total f os ≤ 1000000 * length os
+few : (f : Order → ℕ) → ((o : Order) → Sums o → f o ≤ 1000000) → (os : List Order) → AllByRecursion Sums os → total f os ≤ 1000000 * length os
 few f h [] a = omega arith
 few f h (o ∷ os) a = omega (arith, h o a.0, few f h os a.1)
 

@@ -1,6 +1,6 @@
 -- The clean_up_lem price, from the front of the book.
 use Rattle.std.proofs.Common.{◌≡◌, ℕ, Bool, true, false, cond, ◌&&◌, leb, List, [], ◌∷◌, map, Some, None, Option, sym, refl, ap, ◌∙◌, arith}
-use Rattle.std.specs.List.{AllByRecursion as All}
+use Rattle.std.specs.List.{AllByRecursion}
 use Rattle.std.proofs.ByRecursion.{All-weaker}
 use Rattle.std.proofs.lemmas.Bool.{and_left}
 use Rattle.std.proofs.lemmas.Bool.Decides.{nat_tests}
@@ -75,7 +75,7 @@ pick_far : (c : Side) (a b : Key) → precedes c a b ≡ true → cond (better (
 pick_far Buy a b h = grind (arith, nat_tests)
 pick_far Sell a b h = grind (arith, nat_tests)
 
-near : (c : Side) (u : Order → Bool) (x : Order) (xs : List Order) → All (λ y. before c x y ≡ true) xs → pick c x.price (best c (tagged u xs)) ≡ Some x.price
+near : (c : Side) (u : Order → Bool) (x : Order) (xs : List Order) → AllByRecursion (λ y. before c x y ≡ true) xs → pick c x.price (best c (tagged u xs)) ≡ Some x.price
 near c u x [] a = refl
 near c u x (y ∷ ys) a = go (u y) (near c u x ys a.1)
   where
@@ -84,7 +84,7 @@ near c u x (y ∷ ys) a = go (u y) (near c u x ys a.1)
     go false ih = ih
 
 -- the worst of what is behind x, or x
-far : (c : Side) (u : Order → Bool) (x : Order) (xs : List Order) → All (λ y. before c x y ≡ true) xs → pick (opposite c) x.price (best (opposite c) (tagged u xs)) ≡ or (best (opposite c) (tagged u xs)) (Some x.price)
+far : (c : Side) (u : Order → Bool) (x : Order) (xs : List Order) → AllByRecursion (λ y. before c x y ≡ true) xs → pick (opposite c) x.price (best (opposite c) (tagged u xs)) ≡ or (best (opposite c) (tagged u xs)) (Some x.price)
 far c u x [] a = refl
 far c u x (y ∷ ys) a = go (u y) (far c u x ys a.1)
   where
@@ -106,7 +106,7 @@ or_or None b c = refl
 or_or (Some x) b c = refl
 
 -- nothing in reach
-pub sweep_none : (c : Side) (reach covers : Order → Bool) (last : Option ℕ) (xs : List Order) → All (λ x. reach x ≡ false) xs → sweep c reach covers last xs ≡ last
+pub sweep_none : (c : Side) (reach covers : Order → Bool) (last : Option ℕ) (xs : List Order) → AllByRecursion (λ x. reach x ≡ false) xs → sweep c reach covers last xs ≡ last
 sweep_none c reach covers last xs a =
     ap (λ l. or (best c (map (λ o. o.price) l)) (or (best (opposite c) (tagged reach xs)) last)) (none_those (λ o. reach o && covers o) xs (All-weaker (λ x. reach x ≡ false) (λ x. (reach x && covers x) ≡ false) (λ x e. and_left (reach x) (covers x) e) xs a))
     ∙ ap (λ l. or (best (opposite c) (map (λ o. o.price) l)) last) (none_those reach xs a)

@@ -1,6 +1,6 @@
 -- The book of a side: the resting orders of the roll, the better price first, and at one price the lower number. Assumes nothing.
 use Rattle.std.specs.Prelude.{◌≡◌, ℕ, ◌+◌, ◌≤◌, Bool, true, false, List, [], ◌∷◌, map, length, Some, None, Option}
-use Rattle.std.specs.List.{AllByRecursion as All}
+use Rattle.std.specs.List.{AllByRecursion}
 use Rattle.market.specs.declared.words.Side.{Side}
 use Rattle.market.specs.declared.words.Order.{Order}
 use Rattle.market.specs.Files.{filed}
@@ -48,7 +48,7 @@ pub record Sums (o : Order) : Type 0 where
 pub record Sound (os : List Order) : Type 0 where
   pub numbered : Numbered 1 os
   pub few : length os ≤ 512
-  pub sums : All Sums os
+  pub sums : AllByRecursion Sums os
 
 -- a table of keys shows the book of side c
 pub record Tied (c : Side) (os : List Order) (ks : List Key) : Type 0 where

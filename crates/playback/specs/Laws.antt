@@ -1,6 +1,6 @@
 -- What holds of every list of calls, performed or refused, whatever the rule and the stop file. Assumes nothing.
 use Rattle.std.specs.Prelude.{◌≡◌, ℕ, Bool, true, ◌⊎◌, List, [], take, drop, Some, None}
-use Rattle.std.specs.List.{AllByRecursion as All}
+use Rattle.std.specs.List.{AllByRecursion}
 use Rattle.market.specs.declared.words.Place.TheVariants.{StopFile}
 use Rattle.market.specs.declared.words.Order.{Order}
 use Rattle.market.specs.declared.words.Range.{Range}
@@ -33,9 +33,9 @@ pub record ListLaws (gifts : Rule) (room : ℕ) (cs : List Call) : Type 0 where
       → Fate n o.side o.price (place_of (look n (after_calls gifts room (day_after gifts room cs j) (take k (drop j cs))).roll)) (handed (day_after gifts room cs j) (after_calls gifts room (day_after gifts room cs j) (take k (drop j cs))))
   -- A range in force stays through a call and is shown by its prints; where none is in force, the first run that prints sets it.
   pub range_stays : (k : ℕ) (c : Call) (g : Range) → refusal (checks room (day_after gifts room cs k) c) ≡ None → range_for (day_after gifts room cs k) c ≡ Some g
-      → ((step gifts room (day_after gifts room cs k) c).day.range ≡ Some g) × All (Shows g.low g.high) (handed (day_after gifts room cs k) (step gifts room (day_after gifts room cs k) c).day)
+      → ((step gifts room (day_after gifts room cs k) c).day.range ≡ Some g) × AllByRecursion (Shows g.low g.high) (handed (day_after gifts room cs k) (step gifts room (day_after gifts room cs k) c).day)
   pub range_begins : (k : ℕ) (c : Call) → refusal (checks room (day_after gifts room cs k) c) ≡ None → range_for (day_after gifts room cs k) c ≡ None
-      → (All NoPrint (handed (day_after gifts room cs k) (step gifts room (day_after gifts room cs k) c).day) × ((step gifts room (day_after gifts room cs k) c).day.range ≡ None))
+      → (AllByRecursion NoPrint (handed (day_after gifts room cs k) (step gifts room (day_after gifts room cs k) c).day) × ((step gifts room (day_after gifts room cs k) c).day.range ≡ None))
       ⊎ Begins (day_after gifts room cs k).class (day_after gifts room cs k).column (handed (day_after gifts room cs k) (step gifts room (day_after gifts room cs k) c).day) (step gifts room (day_after gifts room cs k) c).day.range
   -- After each call the line is worked off, or trading is paused.
   pub worked_off : (k : ℕ) → ((day_after gifts room cs k).paused ≡ true) ⊎ ((day_after gifts room cs k).line ≡ [])

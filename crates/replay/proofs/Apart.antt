@@ -1,7 +1,7 @@
 -- Bid below offer: which changes of the roll keep it.
 use Rattle.std.proofs.Common.{◌≡◌, ℕ, ◌+◌, ◌-◌, ◌<◌, Bool, true, false, cond, ◌&&◌, eqb, leb, List, [], ◌∷◌, ◌++◌, map, Some, None, Option, sym, refl, ap, ◌∙◌, subst, arith}
 use Rattle.std.proofs.lemmas.Bool.{false≢true, and_parts, or_parts, leb-false}
-use Rattle.std.specs.List.{AllZip, AllByRecursion as All}
+use Rattle.std.specs.List.{AllZip, AllByRecursion}
 use Rattle.market.specs.declared.words.Side.{Side}
 use Rattle.market.specs.declared.words.Side.TheVariants.{Buy, Sell}
 use Rattle.market.specs.declared.words.Kind.{Kind}
@@ -28,14 +28,14 @@ abbrev pub Below : Order → Order → Type 0
 Below b o = rests_on Buy b ≡ true → rests_on Sell o ≡ true → b.price < o.price
 
 abbrev pub Apart : List Order → Type 0
-Apart os = All (λ b. All (Below b) os) os
+Apart os = AllByRecursion (λ b. AllByRecursion (Below b) os) os
 
 -- o' is o at the same price, and rests only if o does
 pub record Thin (o o' : Order) : Type 0 where
   pub rest : (c : Side) → rests_on c o' ≡ true → rests_on c o ≡ true
   pub price : o'.price ≡ o.price
 
-thin_all : (Q : Order → Type 0) (os us : List Order) → ((o u : Order) → Thin o u → Q o → Q u) → AllZip Thin os us → All Q os → All Q us
+thin_all : (Q : Order → Type 0) (os us : List Order) → ((o u : Order) → Thin o u → Q o → Q u) → AllZip Thin os us → AllByRecursion Q os → AllByRecursion Q us
 thin_all Q [] [] f z a = tt
 thin_all Q [] (u ∷ us) f z a = absurd z
 thin_all Q (o ∷ os) [] f z a = absurd z
@@ -43,7 +43,7 @@ thin_all Q (o ∷ os) (u ∷ us) f z a = (f o u z.0 a.0, thin_all Q os us f z.1 
 
 pub apart_thin : (os us : List Order) → AllZip Thin os us → Apart os → Apart us
 apart_thin os us z a =
-    thin_all (λ b. All (Below b) us) os us (λ b b' t h. all_map _ _ us (λ o k x y. subst (λ p. p < o.price) (sym t.price) (k (t.rest Buy x) y)) h) z
+    thin_all (λ b. AllByRecursion (Below b) us) os us (λ b b' t h. all_map _ _ us (λ o k x y. subst (λ p. p < o.price) (sym t.price) (k (t.rest Buy x) y)) h) z
     (all_map _ _ os (λ b h. thin_all (Below b) os us (λ o o' t k x y. subst (λ p. b.price < p) (sym t.price) (k x (t.rest Sell y))) z h) a)
 
 thin_self : (os : List Order) → AllZip Thin os os
@@ -83,10 +83,10 @@ thin_called p (o ∷ os) = (go (is_elected p o), thin_called p os)
     go false = record { rest = λ c e. e; price = refl }
 
 -- an order that comes to rest where no contra order is within its limit
-pub apart_rest : (n : ℕ) (f : Order → Order) (r : Order) (os : List Order) → look n os ≡ Some r → All (λ o. Below (f r) o × Below o (f r)) os → Below (f r) (f r) → Apart os → Apart (alter n f os)
+pub apart_rest : (n : ℕ) (f : Order → Order) (r : Order) (os : List Order) → look n os ≡ Some r → AllByRecursion (λ o. Below (f r) o × Below o (f r)) os → Below (f r) (f r) → Apart os → Apart (alter n f os)
 apart_rest n f r os i c s a =
-    all_alter (λ b. All (Below b) (alter n f os)) n f os
-    (λ o e _. subst (λ x. All (Below (f x)) (alter n f os)) (same o e)
+    all_alter (λ b. AllByRecursion (Below b) (alter n f os)) n f os
+    (λ o e _. subst (λ x. AllByRecursion (Below (f x)) (alter n f os)) (same o e)
     (all_alter (Below (f r)) n f os (λ u e _. subst (λ x. Below (f r) (f x)) (same u e) s) (all_map _ _ os (λ u h. h.0) c)))
     (all_map_two os (all_map _ _ os (λ o h. h.1) c) a)
   where
@@ -96,15 +96,15 @@ apart_rest n f r os i c s a =
         some_inj : {x y : Order} → Some x ≡ Some y → x ≡ y
         some_inj e = cc
 
-    all_map_two : (bs : List Order) → All (λ o. Below o (f r)) bs → All (λ b. All (Below b) os) bs → All (λ b. All (Below b) (alter n f os)) bs
+    all_map_two : (bs : List Order) → AllByRecursion (λ o. Below o (f r)) bs → AllByRecursion (λ b. AllByRecursion (Below b) os) bs → AllByRecursion (λ b. AllByRecursion (Below b) (alter n f os)) bs
     all_map_two [] x y = tt
     all_map_two (b ∷ bs) x y = (all_alter (Below b) n f os (λ u e _. subst (λ z. Below b (f z)) (same u e) x.0) y.0, all_map_two bs x.1 y.1)
 
-none : (t : Order → Bool) (os : List Order) → any t os ≡ false → All (λ o. t o ≡ false) os
+none : (t : Order → Bool) (os : List Order) → any t os ≡ false → AllByRecursion (λ o. t o ≡ false) os
 none t [] e = tt
 none t (o ∷ os) e = let h : (t o ≡ false) × (any t os ≡ false) = or_parts (t o) (any t os) e in (h.0, none t os h.1)
 
-pub clear_of : (r : Order) (os : List Order) → r.kind ≡ Limit → any (is_contra r) os ≡ false → All (λ o. Below (put Book r) o × Below o (put Book r)) os
+pub clear_of : (r : Order) (os : List Order) → r.kind ≡ Limit → any (is_contra r) os ≡ false → AllByRecursion (λ o. Below (put Book r) o × Below o (put Book r)) os
 clear_of r os k e = all_map _ _ os (λ o h. both r.side o (limit o h)) (none (is_contra r) os e)
   where
     limit : (o : Order) → is_contra r o ≡ false → (rests_on (opposite r.side) o && as_good (opposite r.side) o.price r.price) ≡ false
@@ -127,15 +127,15 @@ one_side o x y = absurd (go o.side (and_parts (is_book o.place) (same_side o.sid
     go Buy x y = false≢true y
     go Sell x y = false≢true x
 
-apart_push : (os : List Order) (x : Order) → All (λ o. Below x o × Below o x) os → Apart os → Apart (os ++ (x ∷ []))
-apart_push os x c a = all_push (λ b. All (Below b) (os ++ (x ∷ []))) os x (two os c a) (all_push (Below x) os x (all_map _ _ os (λ o h. h.0) c) (one_side x))
+apart_push : (os : List Order) (x : Order) → AllByRecursion (λ o. Below x o × Below o x) os → Apart os → Apart (os ++ (x ∷ []))
+apart_push os x c a = all_push (λ b. AllByRecursion (Below b) (os ++ (x ∷ []))) os x (two os c a) (all_push (Below x) os x (all_map _ _ os (λ o h. h.0) c) (one_side x))
   where
-    two : (bs : List Order) → All (λ o. Below x o × Below o x) bs → All (λ b. All (Below b) os) bs → All (λ b. All (Below b) (os ++ (x ∷ []))) bs
+    two : (bs : List Order) → AllByRecursion (λ o. Below x o × Below o x) bs → AllByRecursion (λ b. AllByRecursion (Below b) os) bs → AllByRecursion (λ b. AllByRecursion (Below b) (os ++ (x ∷ []))) bs
     two [] c a = tt
     two (b ∷ bs) c a = (all_push (Below b) os x a.0 c.0.1, two bs c.1 a.1)
 
 -- who does not rest is apart from all
-off_book : (x : Order) → is_book x.place ≡ false → (os : List Order) → All (λ o. Below x o × Below o x) os
+off_book : (x : Order) → is_book x.place ≡ false → (os : List Order) → AllByRecursion (λ o. Below x o × Below o x) os
 off_book x e [] = tt
 off_book x e (o ∷ os) = (((λ a _. absurd (false≢true (sym e ∙ (and_parts (is_book x.place) (same_side x.side Buy) a).0))), (λ _ b. absurd (false≢true (sym e ∙ (and_parts (is_book x.place) (same_side x.side Sell) b).0)))), off_book x e os)
 
@@ -166,11 +166,11 @@ module _ (gifts : Rule) (lawful : LawfulRule gifts) where
   }
     where
       at_book : (k : Kind) (s : Side) (m p q : ℕ) (d : Day) → k ≡ Limit → any (is_contra (fresh k s m p q d.roll)) d.roll ≡ false
-          → All (λ o. Below (put Book (fresh k s m p q d.roll)) o × Below o (put Book (fresh k s m p q d.roll))) d.roll
+          → AllByRecursion (λ o. Below (put Book (fresh k s m p q d.roll)) o × Below o (put Book (fresh k s m p q d.roll))) d.roll
       at_book k s m p q d e c = clear_of (fresh k s m p q d.roll) d.roll (fresh_limit k s m p q d.roll e) c
 
       go : (k : Kind) (s : Side) (m p q : ℕ) (w : Place) (d : Day) → Placed gifts lawful k w (any (is_contra (fresh k s m p q d.roll)) d.roll)
-          → All (λ o. Below (put w (fresh k s m p q d.roll)) o × Below o (put w (fresh k s m p q d.roll))) d.roll
+          → AllByRecursion (λ o. Below (put w (fresh k s m p q d.roll)) o × Below o (put w (fresh k s m p q d.roll))) d.roll
       go k s m p q Book d pl = at_book k s m p q d (pl refl).0 (pl refl).1
       go k s m p q Line d pl = off_book (put Line (fresh k s m p q d.roll)) (ap is_book (put_place Line (fresh k s m p q d.roll))) d.roll
       go k s m p q StopFile d pl = off_book (put StopFile (fresh k s m p q d.roll)) (ap is_book (put_place StopFile (fresh k s m p q d.roll))) d.roll
@@ -192,7 +192,7 @@ best_of c d x e = go (best c (prices (rests_on c) d.roll)) refl e
 
 pub bid_below : (d : Day) → Apart d.roll → (b o : ℕ × ℕ) → quote Buy d ≡ Some b → quote Sell d ≡ Some o → b.0 < o.0
 bid_below d a b o x y =
-    meet (λ u. All (Below u) d.roll) (λ u. (rests_on Buy u ≡ true) × (u.price ≡ b.0)) (b.0 < o.0) d.roll
+    meet (λ u. AllByRecursion (Below u) d.roll) (λ u. (rests_on Buy u ≡ true) × (u.price ≡ b.0)) (b.0 < o.0) d.roll
     (λ u h k. meet (Below u) (λ v. (rests_on Sell v ≡ true) × (v.price ≡ o.0)) (b.0 < o.0) d.roll
     (λ v f g. let z : u.price < v.price = f k.0 g.0 in omega (arith, k.1, g.1)) h (best_of Sell d o y)) a (best_of Buy d b x)
 

@@ -1,6 +1,6 @@
 -- Where no range is in force, the first run that prints sets it.
 use Rattle.std.proofs.Common.{◌≡◌, ℕ, zero, suc, ◌+◌, ◌-◌, ◌<◌, ◌≤◌, Bool, true, false, ◌⊎◌, List, [], ◌∷◌, ◌++◌, map, Some, None, Option, sym, refl, ap, ◌∙◌, subst, inl, inr, arith}
-use Rattle.std.specs.List.{AllByRecursion as All}
+use Rattle.std.specs.List.{AllByRecursion}
 use Rattle.market.specs.declared.words.Side.{Side}
 use Rattle.market.specs.declared.words.Kind.{Kind}
 use Rattle.market.specs.declared.words.Kind.TheVariants.{Limit, Market, ImmediateOrCancel, Stop}
@@ -30,7 +30,7 @@ use Rattle.replay.specs.Bounds.{Bounds}
 use Rattle.replay.proofs.Bounds.{bounds_keeps, always_bounded, resting_price, resting_priced, range_some}
 use Rattle.replay.proofs.Ranges.{Shown, run_shown, withdraw_shown}
 
-shows_any : (lo hi : ℕ) (ls : List TapeLine) → All NoPrint ls → All (Shows lo hi) ls
+shows_any : (lo hi : ℕ) (ls : List TapeLine) → AllByRecursion NoPrint ls → AllByRecursion (Shows lo hi) ls
 shows_any lo hi [] a = tt
 shows_any lo hi (Print n p q l h ∷ ls) a = absurd a.0
 shows_any lo hi (Cancel n q ∷ ls) a = (tt, shows_any lo hi ls a.1)
@@ -41,9 +41,9 @@ module _ (k : ℕ) (c : Column) where
   -- no range in force, last sale l, and no print since ts
   module _ (ts : List TapeLine) (l : ℕ) where
     abbrev Silent : List TapeLine → Type 0
-    Silent xs = (ls : List TapeLine) × (xs ≡ ts ++ ls) × All NoPrint ls
+    Silent xs = (ls : List TapeLine) × (xs ≡ ts ++ ls) × AllByRecursion NoPrint ls
 
-    silent_more : (xs ks : List TapeLine) → All NoPrint ks → Silent xs → Silent (xs ++ ks)
+    silent_more : (xs ks : List TapeLine) → AllByRecursion NoPrint ks → Silent xs → Silent (xs ++ ks)
     silent_more xs ks a h = (h.0 ++ ks, ap (λ x. x ++ ks) h.1 ∙ append_append ts h.0 ks, all_append NoPrint h.0 ks h.2 a)
 
     pub record Quiet (d : Day) : Type 0 where
@@ -53,7 +53,7 @@ module _ (k : ℕ) (c : Column) where
       pub column : d.column ≡ c
       pub silent : Silent d.tape
 
-    elections : (ns : List ℕ) → All NoPrint (map Elect ns)
+    elections : (ns : List ℕ) → AllByRecursion NoPrint (map Elect ns)
     elections [] = tt
     elections (n ∷ ns) = (tt, elections ns)
 
@@ -140,8 +140,8 @@ module _ (k : ℕ) (c : Column) where
         pub price : ℕ
         pub shares : ℕ
         pub range : Range
-        pub silent : All NoPrint before
-        pub first : All (Rangeless runner) earlier
+        pub silent : AllByRecursion NoPrint before
+        pub first : AllByRecursion (Rangeless runner) earlier
         pub around : range_around k c price ≡ Some range
         pub shown : Shown range (ts ++ (before ++ (earlier ++ (Print runner price shares 0 0 ∷ [])))) d
 
@@ -321,8 +321,8 @@ module _ (gifts : Rule) (lawful : LawfulRule gifts) (room : ℕ) (d : Day) (s : 
   became_out Close e w = inl (w, ([], sym (append_none d.tape), tt))
 
   seen : (e : Day) → Out d.class d.column gifts lawful d.tape e
-      → (All NoPrint (handed d e) × (e.range ≡ None)) ⊎ Begins d.class d.column (handed d e) e.range
-  seen e (inl x) = inl (subst (λ xs. All NoPrint xs) (sym (ap (beyond d.tape) x.1.1 ∙ beyond_append d.tape x.1.0)) x.1.2, x.0)
+      → (AllByRecursion NoPrint (handed d e) × (e.range ≡ None)) ⊎ Begins d.class d.column (handed d e) e.range
+  seen e (inl x) = inl (subst (λ xs. AllByRecursion NoPrint xs) (sym (ap (beyond d.tape) x.1.1 ∙ beyond_append d.tape x.1.0)) x.1.2, x.0)
   seen e (inr x) =
       let p : TapeLine = Print x.runner x.price x.shares 0 0 in
       let ls : List TapeLine = x.shown.1.0 in
@@ -344,10 +344,10 @@ module _ (gifts : Rule) (lawful : LawfulRule gifts) (room : ℕ) (d : Day) (s : 
       })
 
   step_seen : (c : Call) → refusal (checks room d c) ≡ None → range_for d c ≡ None
-      → (All NoPrint (handed d (step gifts room d c).day) × ((step gifts room d c).day.range ≡ None)) ⊎ Begins d.class d.column (handed d (step gifts room d c).day) (step gifts room d c).day.range
+      → (AllByRecursion NoPrint (handed d (step gifts room d c).day) × ((step gifts room d c).day.range ≡ None)) ⊎ Begins d.class d.column (handed d (step gifts room d c).day) (step gifts room d c).day.range
   unfolding step perform
   step_seen c e w =
-      subst (λ x. (All NoPrint (handed d (decided x d (perform gifts d c)).day) × ((decided x d (perform gifts d c)).day.range ≡ None))
+      subst (λ x. (AllByRecursion NoPrint (handed d (decided x d (perform gifts d c)).day) × ((decided x d (perform gifts d c)).day.range ≡ None))
       ⊎ Begins d.class d.column (handed d (decided x d (perform gifts d c)).day) (decided x d (perform gifts d c)).day.range) (sym e)
       (seen (became gifts d c) (became_out c e w))
 

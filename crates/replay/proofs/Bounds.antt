@@ -1,7 +1,7 @@
 -- The numbers of a day stay small: what the code's arithmetic needs.
 use Rattle.std.proofs.Common.{◌≡◌, ℕ, ◌+◌, ◌-◌, ◌≤◌, Bool, true, false, cond, not, ◌&&◌, ◌||◌, eqb, leb, ◌⊎◌, List, [], ◌∷◌, ◌++◌, map, Some, None, Option, sym, refl, ap, ◌∙◌, subst, inl, inr, arith}
 use Rattle.std.proofs.lemmas.Bool.{false≢true, not-false, and_parts, and_from, eqb-true, leb-true, le-leb}
-use Rattle.std.specs.List.{AllByRecursion as All}
+use Rattle.std.specs.List.{AllByRecursion}
 use Rattle.market.specs.declared.words.Side.{Side}
 use Rattle.market.specs.declared.words.Kind.{Kind}
 use Rattle.market.specs.declared.words.Kind.TheVariants.{Limit, Market, ImmediateOrCancel, Stop}
@@ -46,16 +46,16 @@ called_fine : (b : Bool) (o : Order) → Fine o → Fine (called b o)
 called_fine true o f = record { price = f.price; priced = f.priced; member = f.member; book = λ e. absurd (let z : ◌≡◌ {A = ℕ} 0 1 = cc in omega arith) }
 called_fine false o f = f
 
-all_deal : (c : Side) (p : ℕ) (os : List Order) (gs : List ℕ) → All Fine os → All Fine (deal c p os gs)
+all_deal : (c : Side) (p : ℕ) (os : List Order) (gs : List ℕ) → AllByRecursion Fine os → AllByRecursion Fine (deal c p os gs)
 unfolding deal
 all_deal c p [] gs a = tt
 all_deal c p (o ∷ os) gs a = (dealt_is Fine (is_better c p o) (is_at c p o) gs o (λ q. fill_fine q o a.0) a.0, all_deal c p os (after (is_at c p o) gs) a.1)
 
-all_called : (p : ℕ) (os : List Order) → All Fine os → All Fine (map (λ o. called (is_elected p o) o) os)
+all_called : (p : ℕ) (os : List Order) → AllByRecursion Fine os → AllByRecursion Fine (map (λ o. called (is_elected p o) o) os)
 all_called p [] a = tt
 all_called p (o ∷ os) a = (called_fine (is_elected p o) o a.0, all_called p os a.1)
 
-all_push : (os : List Order) (x : Order) → All Fine os → Fine x → All Fine (os ++ (x ∷ []))
+all_push : (os : List Order) (x : Order) → AllByRecursion Fine os → Fine x → AllByRecursion Fine (os ++ (x ∷ []))
 all_push [] x a f = (f, tt)
 all_push (o ∷ os) x a f = (a.0, all_push os x a.1 f)
 
@@ -75,14 +75,14 @@ on_book Line e = absurd (false≢true e)
 on_book StopFile e = absurd (false≢true e)
 
 -- who rests has a price
-pub resting_priced : (c : Side) (p : ℕ) (os : List Order) → any (is_at c p) os ≡ true → All Fine os → 1 ≤ p
+pub resting_priced : (c : Side) (p : ℕ) (os : List Order) → any (is_at c p) os ≡ true → AllByRecursion Fine os → 1 ≤ p
 resting_priced c p os e a = meet Fine (λ o. is_at c p o ≡ true) (1 ≤ p) os
     (λ o f h.
     let x : (rests_on c o ≡ true) × (eqb o.price p ≡ true) = and_parts (rests_on c o) (eqb o.price p) h in
     let b : o.place ≡ Book = on_book o.place (and_parts (is_book o.place) (same_side o.side c) x.0).0 in
     subst (λ z. 1 ≤ z) (eqb-true o.price p x.1) (f.priced (ap is_market (f.book b)))) a (any_among (is_at c p) os e)
 
-pub resting_price : (c : Side) (p : ℕ) (os : List Order) → any (is_at c p) os ≡ true → All Fine os → p ≤ 100000
+pub resting_price : (c : Side) (p : ℕ) (os : List Order) → any (is_at c p) os ≡ true → AllByRecursion Fine os → p ≤ 100000
 resting_price c p os e a = meet Fine (λ o. is_at c p o ≡ true) (p ≤ 100000) os
     (λ o f h. let z : o.price ≡ p = eqb-true o.price p (and_parts (rests_on c o) (eqb o.price p) h).1 in omega (arith, f.price)) a (any_among (is_at c p) os e)
 
@@ -100,7 +100,7 @@ in_band k c b h = go (eqb k 1) c
     go false Lower = h.2
     go false Higher = h.3
 
-value_most : (bs : List Band) (k : ℕ) (c : Column) (p : ℕ) → All Low bs → value_in bs k c p ≤ 200
+value_most : (bs : List Band) (k : ℕ) (c : Column) (p : ℕ) → AllByRecursion Low bs → value_in bs k c p ≤ 200
 value_most [] k c p a = omega arith
 value_most (b ∷ bs) k c p a = go (leb p b.to) (in_band k c b a.0) (value_most bs k c p a.1)
   where
@@ -108,7 +108,7 @@ value_most (b ∷ bs) k c p a = go (leb p b.to) (in_band k c b a.0) (value_most 
     go true x y = x
     go false x y = y
 
-bands_low : All Low bands
+bands_low : AllByRecursion Low bands
 unfolding Low
 bands_low = ((omega arith, omega arith, omega arith, omega arith), ((omega arith, omega arith, omega arith, omega arith), ((omega arith, omega arith, omega arith, omega arith), ((omega arith, omega arith, omega arith, omega arith), ((omega arith, omega arith, omega arith, omega arith), ((omega arith, omega arith, omega arith, omega arith), tt))))))
 

@@ -1,7 +1,7 @@
 -- Every call keeps the day sound; so shares are conserved over every list of calls.
 use Rattle.std.proofs.Common.{◌≡◌, ℕ, suc, ◌+◌, ◌-◌, ◌%◌, ◌<◌, ◌≤◌, Bool, true, false, not, ◌&&◌, eqb, leb, List, [], ◌∷◌, ◌++◌, length, Some, None, Option, sym, refl, ap, ◌∙◌, subst, arith}
 use Rattle.std.proofs.lemmas.Bool.{and_parts, leb-true, not-false, eq-eqb, ne_eqb, eqb-true, leb-false}
-use Rattle.std.specs.List.{AllByRecursion as All}
+use Rattle.std.specs.List.{AllByRecursion}
 use Rattle.market.specs.declared.words.Side.{Side}
 use Rattle.market.specs.declared.words.Side.TheVariants.{Buy, Sell}
 use Rattle.market.specs.declared.words.Kind.{Kind}
@@ -29,11 +29,11 @@ use Rattle.replay.proofs.Runs.{Sound, Counted, numbers, elect_sound, work_sound,
 use Rattle.market.specs.Bounds.{is_price, is_shares, is_member, is_class, is_last_sale}
 
 -- refusals -------------------------------------------------------------------------------------------------------------------------
-pub refusal_none : (cs : List Check) → refusal cs ≡ None → All (λ c. c.fails ≡ false) cs
+pub refusal_none : (cs : List Check) → refusal cs ≡ None → AllByRecursion (λ c. c.fails ≡ false) cs
 refusal_none [] e = tt
 refusal_none (c ∷ cs) e = go c.fails refl e (refusal_none cs)
   where
-    go : (b : Bool) → c.fails ≡ b → first_of b c.code (refusal cs) ≡ None → (refusal cs ≡ None → All (λ c. c.fails ≡ false) cs) → (c.fails ≡ false) × All (λ c. c.fails ≡ false) cs
+    go : (b : Bool) → c.fails ≡ b → first_of b c.code (refusal cs) ≡ None → (refusal cs ≡ None → AllByRecursion (λ c. c.fails ≡ false) cs) → (c.fails ≡ false) × AllByRecursion (λ c. c.fails ≡ false) cs
     go true h e ih = absurd (let z : ◌≡◌ {A = ℕ} 0 1 = cc in omega arith)
     go false h e ih = (h, ih e)
 
@@ -78,14 +78,14 @@ admit_sound o w d g f c n l s =
       line = go w e (all_map _ _ d.line (λ m h. waits_push d.roll (put w o) m h) s.line);
     }
   where
-    last : (Q : ℕ → Type 0) (ms : List ℕ) (m : ℕ) → All Q ms → Q m → All Q (ms ++ (m ∷ []))
+    last : (Q : ℕ → Type 0) (ms : List ℕ) (m : ℕ) → AllByRecursion Q ms → Q m → AllByRecursion Q (ms ++ (m ∷ []))
     last Q [] m a q = (q, tt)
     last Q (x ∷ ms) m a q = (a.0, last Q ms m a.1 q)
 
     waits_last : (put Line o).number ≡ 1 + length d.roll → Waits (d.roll ++ (put Line o ∷ [])) o.number
     waits_last e = subst (λ n. Waits (d.roll ++ (put Line o ∷ [])) n) (put_number Line o) (ap place_of (look_push 1 d.roll (put Line o) s.counted e) ∙ put_place Line o)
 
-    go : (w : Place) → (put w o).number ≡ 1 + length d.roll → All (Waits (d.roll ++ (put w o ∷ []))) d.line → All (Waits (d.roll ++ (put w o ∷ []))) (line_with w o.number d.line)
+    go : (w : Place) → (put w o).number ≡ 1 + length d.roll → AllByRecursion (Waits (d.roll ++ (put w o ∷ []))) d.line → AllByRecursion (Waits (d.roll ++ (put w o ∷ []))) (line_with w o.number d.line)
     go Book e a = a
     go Line e a = last (Waits (d.roll ++ (put Line o ∷ []))) d.line o.number a (waits_last e)
     go StopFile e a = a
@@ -129,7 +129,7 @@ pub same_sound : (d e : Day) → d.roll ≡ e.roll → d.line ≡ e.line → tot
 same_sound d e r l p x s = record {
   books = books_same d e r p x s.books;
   counted = subst (λ os. Counted 1 (numbers os)) r s.counted;
-  line = subst (λ os. All (Waits os) e.line) r (subst (λ ns. All (Waits d.roll) ns) l s.line);
+  line = subst (λ os. AllByRecursion (Waits os) e.line) r (subst (λ ns. AllByRecursion (Waits d.roll) ns) l s.line);
 }
 
 -- the checks of an order that passed: its shares are lawful, and the roll has a place
@@ -222,7 +222,7 @@ module _ (gifts : Rule) (lawful : LawfulRule gifts) where
   new_sound = record { books = record { orders = tt; few = omega arith; filled = λ s. refl; struck = refl }; counted = tt; line = tt }
 
   -- THE LAW OF CONSERVATION
-  sum_of : (os : List Order) → All Good os → total (λ o. o.accepted) os ≡ (total (filled_on Buy) os + total (filled_on Sell) os) + total (λ o. o.cancelled) os + total (λ o. o.«open») os
+  sum_of : (os : List Order) → AllByRecursion Good os → total (λ o. o.accepted) os ≡ (total (filled_on Buy) os + total (filled_on Sell) os) + total (λ o. o.cancelled) os + total (λ o. o.«open») os
   sum_of [] a = refl
   sum_of (o ∷ os) a = omega (arith, a.0.sum, sides o.side o.filled, sum_of os a.1)
     where

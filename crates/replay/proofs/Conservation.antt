@@ -1,6 +1,6 @@
 -- Shares are conserved.
 use Rattle.std.proofs.Common.{◌≡◌, ℕ, ◌+◌, ◌-◌, ◌%◌, ◌<◌, ◌≤◌, min, Bool, true, false, eqb, List, [], ◌∷◌, length, Some, None, sym, refl, ap, ◌∙◌, subst, arith}
-use Rattle.std.specs.List.{AllZip, AllByRecursion as All}
+use Rattle.std.specs.List.{AllZip, AllByRecursion}
 use Rattle.market.specs.declared.words.Side.{Side}
 use Rattle.market.specs.declared.words.Side.TheVariants.{Buy, Sell}
 use Rattle.market.specs.declared.words.Place.TheVariants.{Line}
@@ -19,7 +19,7 @@ use Rattle.replay.proofs.Sharing.{LawfulShares, LawfulRow, Gift, gifts_fit, gift
 use Rattle.replay.proofs.Rolls.{Good, good_fill, val, total_alter, all_alter, only_add, depth_split, row_lawful, row_short, row_some, total_whole, deal_good, deal_filled, deal_struck, length_deal, length_alter, look_deal}
 
 pub record Books (d : Day) : Type 0 where
-  pub orders : All Good d.roll
+  pub orders : AllByRecursion Good d.roll
   pub few : length d.roll ≤ 512
   pub filled : (s : Side) → total (filled_on s) d.roll ≡ total print_of d.tape
   pub struck : total (λ o. o.cancelled) d.roll ≡ total cancel_of d.tape
@@ -30,7 +30,7 @@ both_sides Buy Sell q = omega arith
 both_sides Sell Buy q = omega arith
 both_sides Sell Sell q = omega arith
 
-row_sum : (ns : List ℕ) → 1 ≤ length ns → All LawfulShares ns → 100 ≤ total (λ n. n) ns
+row_sum : (ns : List ℕ) → 1 ≤ length ns → AllByRecursion LawfulShares ns → 100 ≤ total (λ n. n) ns
 row_sum [] h a = omega arith
 row_sum (n ∷ ns) h a = omega (arith, a.0.1)
 
@@ -54,11 +54,11 @@ pub record Fits (q o a t : ℕ) : Type 0 where
 fits_from : (q o a t : ℕ) → q ≡ min o (a + t) → o % 100 ≡ 0 → a % 100 ≡ 0 → t % 100 ≡ 0 → 100 ≤ t → a < o → Fits q o a t
 fits_from q o a t e w₁ w₂ w₃ l s = omega arith
 
-sum_whole : (ns : List ℕ) → All LawfulShares ns → total (λ n. n) ns % 100 ≡ 0
+sum_whole : (ns : List ℕ) → AllByRecursion LawfulShares ns → total (λ n. n) ns % 100 ≡ 0
 sum_whole [] a = refl
 sum_whole (n ∷ ns) a = omega (arith, a.0.0, sum_whole ns a.1)
 
-pub find_all : (Q : Order → Type 0) (n : ℕ) (os : List Order) (r : Order) → look n os ≡ Some r → All Q os → Q r
+pub find_all : (Q : Order → Type 0) (n : ℕ) (os : List Order) (r : Order) → look n os ≡ Some r → AllByRecursion Q os → Q r
 unfolding look
 find_all Q n [] r e a = absurd (none_some e)
   where

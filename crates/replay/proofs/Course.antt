@@ -1,7 +1,7 @@
 -- The course of a stop, line by line, and what it tells of the lines.
 use Rattle.std.proofs.Common.{◌≡◌, ℕ, ◌+◌, ◌-◌, ◌<◌, Bool, true, false, eqb, ◌⊎◌, List, [], ◌∷◌, ◌++◌, Some, None, Option, sym, refl, ap, ◌∙◌, inl, inr, ⊎_elim, arith}
 use Rattle.std.proofs.lemmas.Bool.{eqb-true}
-use Rattle.std.specs.List.{AllByRecursion as All}
+use Rattle.std.specs.List.{AllByRecursion}
 use Rattle.market.specs.declared.words.Side.{Side}
 use Rattle.market.specs.declared.words.Place.{Place}
 use Rattle.market.specs.declared.words.Place.TheVariants.{Book, Line, StopFile, Nowhere}
@@ -77,11 +77,11 @@ module _ (n : ℕ) (s : Side) (l : ℕ) where
       go true = inr refl
       go false = inl (refl, refl)
 
-  over_all : (ls : List TapeLine) (w : Course) → code w < 3 → course n s l Over ls ≡ w → (w ≡ Over) × All (λ x. elects n x ≡ false) ls
+  over_all : (ls : List TapeLine) (w : Course) → code w < 3 → course n s l Over ls ≡ w → (w ≡ Over) × AllByRecursion (λ x. elects n x ≡ false) ls
   unfolding course
   over_all [] w h e = (sym e, tt)
   over_all (x ∷ ls) w h e = ⊎_elim
-      (λ k. let r : (w ≡ Over) × All (λ x. elects n x ≡ false) ls = over_all ls w h (ap (λ y. course n s l y ls) (sym k.0) ∙ e) in (r.0, (k.1, r.1)))
+      (λ k. let r : (w ≡ Over) × AllByRecursion (λ x. elects n x ≡ false) ls = over_all ls w h (ap (λ y. course n s l y ls) (sym k.0) ∙ e) in (r.0, (k.1, r.1)))
       (λ k. not_amiss ls w h (ap (λ y. course n s l y ls) (sym k) ∙ e)) (over_next x)
 
   abbrev Between : Option ℕ → TapeLine → Type 0
@@ -107,7 +107,7 @@ module _ (n : ℕ) (s : Side) (l : ℕ) where
       go false e = inl (refl, (refl, refl))
 
   abbrev Brought : Option ℕ → List TapeLine → Type 0
-  Brought k ls = (between : List TapeLine) × (after : List TapeLine) × (ls ≡ between ++ (Elect n ∷ after)) × All (Between k) between × All (λ x. elects n x ≡ false) after
+  Brought k ls = (between : List TapeLine) × (after : List TapeLine) × (ls ≡ between ++ (Elect n ∷ after)) × AllByRecursion (Between k) between × AllByRecursion (λ x. elects n x ≡ false) after
 
   due_split : (k : Option ℕ) (ls : List TapeLine) (w : Course) → (w ≡ Asleep) ⊎ (w ≡ Over) → course n s l (Due k) ls ≡ w → (w ≡ Over) × Brought k ls
   unfolding course code
@@ -116,7 +116,7 @@ module _ (n : ℕ) (s : Side) (l : ℕ) where
       (λ a. let r : (w ≡ Over) × Brought k ls = due_split k ls w h (ap (λ y. course n s l y ls) (sym a.0) ∙ e) in
       (r.0, (x ∷ r.1.0, r.1.1, ap (λ y. x ∷ y) r.1.2, (a.1, r.1.3), r.1.4)))
       (λ a. ⊎_elim
-      (λ b. let r : (w ≡ Over) × All (λ x. elects n x ≡ false) ls = over_all ls w (small w h) (ap (λ y. course n s l y ls) (sym b.1) ∙ e) in
+      (λ b. let r : (w ≡ Over) × AllByRecursion (λ x. elects n x ≡ false) ls = over_all ls w (small w h) (ap (λ y. course n s l y ls) (sym b.1) ∙ e) in
       (r.0, ([], ls, ap (λ y. y ∷ ls) b.0, tt, r.1)))
       (λ b. not_amiss ls w (small w h) (ap (λ y. course n s l y ls) (sym b) ∙ e)) a)
       (due_next k x)
@@ -154,7 +154,7 @@ module _ (n : ℕ) (s : Side) (l : ℕ) where
       go false = inl (refl, (refl, refl, refl))
 
   abbrev Told : Course → List TapeLine → Type 0
-  Told w ls = ((w ≡ Asleep) × All (Untouched n s l) ls) ⊎ ((w ≡ Over) × (Withdrawn n s l ls ⊎ Elected n s l ls))
+  Told w ls = ((w ≡ Asleep) × AllByRecursion (Untouched n s l) ls) ⊎ ((w ≡ Over) × (Withdrawn n s l ls ⊎ Elected n s l ls))
 
   longer : (w : Course) (x : TapeLine) (ls : List TapeLine) → Untouched n s l x → Told w ls → Told w (x ∷ ls)
   longer w x ls u (inl h) = inl (h.0, (u, h.1))
@@ -183,7 +183,7 @@ module _ (n : ℕ) (s : Side) (l : ℕ) where
       (λ b. let r : (w ≡ Over) × Brought (run_by x) ls = due_split (run_by x) ls w h (ap (λ y. course n s l y ls) (sym b.1) ∙ e) in
       inr (r.0, inr (record { before = []; first = x; between = r.1.0; after = r.1.1; lines = ap (λ y. x ∷ y) r.1.2; asleep = tt; reached = b.0; run = r.1.3; once = r.1.4 })))
       (λ b. ⊎_elim
-      (λ c. let r : (w ≡ Over) × All (λ x. elects n x ≡ false) ls = over_all ls w (small w h) (ap (λ y. course n s l y ls) (sym c.2) ∙ e) in
+      (λ c. let r : (w ≡ Over) × AllByRecursion (λ x. elects n x ≡ false) ls = over_all ls w (small w h) (ap (λ y. course n s l y ls) (sym c.2) ∙ e) in
       inr (r.0, inl (record { before = []; shares = c.0; after = ls; lines = ap (λ y. y ∷ ls) c.1; asleep = tt; never = r.1 })))
       (λ c. not_amiss ls w (small w h) (ap (λ y. course n s l y ls) (sym c) ∙ e)) b) a)
       (asleep_next x)

@@ -1,7 +1,7 @@
 -- A filed stop is elected by the first print or floor trade that reaches its price, before the next run, and by nothing else.
 use Rattle.std.proofs.Common.{◌≡◌, ℕ, zero, suc, ◌+◌, ◌-◌, ◌<◌, ◌≤◌, Bool, true, false, cond, ◌&&◌, ◌||◌, eqb, ◌⊎◌, List, [], ◌∷◌, ◌++◌, map, Some, None, Option, sym, refl, ap, ◌∙◌, subst, inl, inr, ⊎_elim, arith}
 use Rattle.std.proofs.lemmas.Bool.{false≢true, eq-eqb, ne_eqb, eqb-true, eqb-false, cases_eq}
-use Rattle.std.specs.List.{AllByRecursion as All}
+use Rattle.std.specs.List.{AllByRecursion}
 use Rattle.market.specs.declared.words.Side.{Side}
 use Rattle.market.specs.declared.words.Kind.{Kind}
 use Rattle.market.specs.declared.words.Kind.TheVariants.{Limit, Market, ImmediateOrCancel, Stop}
@@ -55,7 +55,7 @@ module _ (n : ℕ) (s : Side) (l : ℕ) (ts : List TapeLine) where
   told_line w w' x xs c t = told_more w w' (x ∷ []) xs c t
 
   -- elections of others change nothing
-  others : (w : Course) (ns : List ℕ) → All (λ k. k ≡ n → ⊥) ns → course n s l w (map Elect ns) ≡ w
+  others : (w : Course) (ns : List ℕ) → AllByRecursion (λ k. k ≡ n → ⊥) ns → course n s l w (map Elect ns) ≡ w
   unfolding course
   others w [] a = refl
   others w (k ∷ ns) a = ap (λ x. course n s l x (map Elect ns)) (go w) ∙ others w ns a.1
@@ -69,32 +69,32 @@ module _ (n : ℕ) (s : Side) (l : ℕ) (ts : List TapeLine) where
       go Over = ap (λ b. whether b Amiss Over) no
       go Amiss = refl
 
-  above : (t : Order → Bool) (k j : ℕ) (os : List Order) → k < j → Counted j (numbers os) → All (λ m. m ≡ k → ⊥) (numbers (those t os))
+  above : (t : Order → Bool) (k j : ℕ) (os : List Order) → k < j → Counted j (numbers os) → AllByRecursion (λ m. m ≡ k → ⊥) (numbers (those t os))
   above t k j [] h a = tt
   above t k j (o ∷ os) h a = pick (t o) (above t k (suc j) os (omega arith) a.1)
     where
-      pick : (b : Bool) → All (λ m. m ≡ k → ⊥) (numbers (those t os)) → All (λ m. m ≡ k → ⊥) (numbers (kept b o (those t os)))
+      pick : (b : Bool) → AllByRecursion (λ m. m ≡ k → ⊥) (numbers (those t os)) → AllByRecursion (λ m. m ≡ k → ⊥) (numbers (kept b o (those t os)))
       pick true ih = ((λ e. omega (arith, a.0)), ih)
       pick false ih = ih
 
-  later : (t : Order → Bool) (k : ℕ) (x : Order) (os : List Order) → x.number ≡ n → x.number ≡ k → Counted (suc k) (numbers os) → All (λ m. m ≡ n → ⊥) (numbers (those t os))
+  later : (t : Order → Bool) (k : ℕ) (x : Order) (os : List Order) → x.number ≡ n → x.number ≡ k → Counted (suc k) (numbers os) → AllByRecursion (λ m. m ≡ n → ⊥) (numbers (those t os))
   later t k x os e f c = above t n (suc k) os (omega arith) c
 
-  not_called : (t : Order → Bool) (k : ℕ) (os : List Order) (o : Order) → Counted k (numbers os) → look n os ≡ Some o → t o ≡ false → All (λ m. m ≡ n → ⊥) (numbers (those t os))
+  not_called : (t : Order → Bool) (k : ℕ) (os : List Order) (o : Order) → Counted k (numbers os) → look n os ≡ Some o → t o ≡ false → AllByRecursion (λ m. m ≡ n → ⊥) (numbers (those t os))
   unfolding look
   not_called t k [] o c i f = tt
   not_called t k (x ∷ os) o c i f = go (eqb x.number n) refl i (not_called t (suc k) os o c.1)
     where
-      drop : (b : Bool) → b ≡ false → All (λ m. m ≡ n → ⊥) (numbers (those t os)) → All (λ m. m ≡ n → ⊥) (numbers (kept b x (those t os)))
+      drop : (b : Bool) → b ≡ false → AllByRecursion (λ m. m ≡ n → ⊥) (numbers (those t os)) → AllByRecursion (λ m. m ≡ n → ⊥) (numbers (kept b x (those t os)))
       drop true e a = absurd (false≢true (sym e))
       drop false e a = a
 
-      add : (b : Bool) → (x.number ≡ n → ⊥) → All (λ m. m ≡ n → ⊥) (numbers (those t os)) → All (λ m. m ≡ n → ⊥) (numbers (kept b x (those t os)))
+      add : (b : Bool) → (x.number ≡ n → ⊥) → AllByRecursion (λ m. m ≡ n → ⊥) (numbers (those t os)) → AllByRecursion (λ m. m ≡ n → ⊥) (numbers (kept b x (those t os)))
       add true e a = (e, a)
       add false e a = a
 
-      go : (b : Bool) → eqb x.number n ≡ b → found b x (look n os) ≡ Some o → (look n os ≡ Some o → t o ≡ false → All (λ m. m ≡ n → ⊥) (numbers (those t os)))
-          → All (λ m. m ≡ n → ⊥) (numbers (kept (t x) x (those t os)))
+      go : (b : Bool) → eqb x.number n ≡ b → found b x (look n os) ≡ Some o → (look n os ≡ Some o → t o ≡ false → AllByRecursion (λ m. m ≡ n → ⊥) (numbers (those t os)))
+          → AllByRecursion (λ m. m ≡ n → ⊥) (numbers (kept (t x) x (those t os)))
       go true e i ih = drop (t x) (ap t (some_inj i) ∙ f) (later t k x os (eqb-true x.number n e) c.0 c.1)
       go false e i ih = add (t x) (eqb-false x.number n e) (ih i f)
 
@@ -222,7 +222,7 @@ module _ (n : ℕ) (s : Side) (l : ℕ) (ts : List TapeLine) where
     filed_open : (w : Place) (m : ℕ) → w ≡ StopFile → Held w m → 100 ≤ m
     filed_open w m e h = subst (λ x. Held x m) e h
 
-    sleeps_deal : (c : Side) (p : ℕ) (os : List Order) (gs : List ℕ) → All Good os → Sleeps os → Sleeps (deal c p os gs)
+    sleeps_deal : (c : Side) (p : ℕ) (os : List Order) (gs : List ℕ) → AllByRecursion Good os → Sleeps os → Sleeps (deal c p os gs)
     sleeps_deal c p os gs a h =
         let o : Order = h.0 in
         let m : 100 ≤ o.«open» = filed_open o.place o.«open» h.2 (find_all Good n os o h.1 a).held in
@@ -233,7 +233,7 @@ module _ (n : ℕ) (s : Side) (l : ℕ) (ts : List TapeLine) where
     step_up m p q lo hi true = ap (λ b. whether b (Due (Some m)) Amiss) (eq-eqb m m refl)
     step_up m p q lo hi false = refl
 
-    trade_up : (r : Order) (p : ℕ) (t : Bool) (d : Day) → (n ≡ r.number → ⊥) → All Good d.roll → Up r.number t d → Up r.number (t || as_good s p l) (trade gifts r.number (opposite r.side) p d)
+    trade_up : (r : Order) (p : ℕ) (t : Bool) (d : Day) → (n ≡ r.number → ⊥) → AllByRecursion Good d.roll → Up r.number t d → Up r.number (t || as_good s p l) (trade gifts r.number (opposite r.side) p d)
     unfolding trade
     trade_up r p t d ne a h = (
       sleeps_alter r.number (fill (size r.number (opposite r.side) p d.roll)) _ (λ o. fill_number (size r.number (opposite r.side) p d.roll) o) ne (sleeps_deal (opposite r.side) p d.roll _ a h.0),
@@ -346,7 +346,7 @@ module _ (n : ℕ) (s : Side) (l : ℕ) (ts : List TapeLine) where
     centre_if_calm None (Some p) d h = h
     centre_if_calm (Some g) x d h = h
 
-    print_up : (r : Order) (x : Option ℕ) (t : Bool) (d : Day) → (n ≡ r.number → ⊥) → All Good d.roll → Up r.number t d → Up r.number (t || hits x) (print_at gifts r x d)
+    print_up : (r : Order) (x : Option ℕ) (t : Bool) (d : Day) → (n ≡ r.number → ⊥) → AllByRecursion Good d.roll → Up r.number t d → Up r.number (t || hits x) (print_at gifts r x d)
     print_up r None t d ne a h = subst (λ b. Up r.number b d) (or_false t) h
       where
         or_false : (t : Bool) → t ≡ (t || false)

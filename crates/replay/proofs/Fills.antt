@@ -1,7 +1,7 @@
 -- No fill passes its order's limit or the range in force; an order's filled shares are the sum of its fills.
 use Rattle.std.proofs.Common.{◌≡◌, ℕ, zero, suc, ◌+◌, ◌-◌, ◌<◌, ◌≤◌, Bool, true, false, ◌&&◌, eqb, leb, ◌⊎◌, List, [], ◌∷◌, ◌++◌, map, length, Some, None, Option, sym, refl, ap, ◌∙◌, subst, inl, inr, ⊎_elim, arith}
 use Rattle.std.proofs.lemmas.Bool.{and_parts, eq-eqb, ne_eqb, eqb-true, cases_eq, ltb-true, leb-true, le-leb}
-use Rattle.std.specs.List.{AllZip, AllByRecursion as All}
+use Rattle.std.specs.List.{AllZip, AllByRecursion}
 use Rattle.market.specs.declared.words.Side.{Side}
 use Rattle.market.specs.declared.words.Side.TheVariants.{Buy, Sell}
 use Rattle.market.specs.declared.words.Kind.{Kind}
@@ -143,11 +143,11 @@ shown (Some g) n p q e =
     let hi : ℕ = g.high in
     let h : (leb lo p ≡ true) × (leb p hi ≡ true) = and_parts (leb lo p) (leb p hi) e in inr (leb-true lo p h.0, leb-true p hi h.1)
 
-all_filled_by : (Q : Fill → Type 0) (q n p : ℕ) (g : Option Range) (fs : List Fill) → (0 < q → Q (record { order = n; price = p; shares = q; low = low_of g; high = high_of g })) → All Q fs → All Q (filled_by q n p g fs)
+all_filled_by : (Q : Fill → Type 0) (q n p : ℕ) (g : Option Range) (fs : List Fill) → (0 < q → Q (record { order = n; price = p; shares = q; low = low_of g; high = high_of g })) → AllByRecursion Q fs → AllByRecursion Q (filled_by q n p g fs)
 all_filled_by Q zero n p g fs h a = a
 all_filled_by Q (suc q) n p g fs h a = (h (omega arith), a)
 
-taken_shown : (c : Side) (p : ℕ) (g : Option Range) → in_range g p ≡ true → (os : List Order) (gs : List ℕ) → All InShown (taken c p g os gs)
+taken_shown : (c : Side) (p : ℕ) (g : Option Range) → in_range g p ≡ true → (os : List Order) (gs : List ℕ) → AllByRecursion InShown (taken c p g os gs)
 unfolding taken
 taken_shown c p g e [] gs = tt
 taken_shown c p g e (o ∷ os) gs =
@@ -180,7 +180,7 @@ gives c p o gs h = go (is_better c p o) (is_at c p o) refl refl h
     go false true e f h = let k : (o.side ≡ c) × (eqb o.price p ≡ true) = of (eqb o.price p) f in by_kind o.kind (no_worse o.side c o.price p k.0 (inr k.1))
     go false false e f h = absurd (omega arith)
 
-taken_limit : (c : Side) (p : ℕ) (g : Option Range) (os xs : List Order) (gs : List ℕ) → All (λ o. look o.number os ≡ Some o) xs → All (WithinLimit os) (taken c p g xs gs)
+taken_limit : (c : Side) (p : ℕ) (g : Option Range) (os xs : List Order) (gs : List ℕ) → AllByRecursion (λ o. look o.number os ≡ Some o) xs → AllByRecursion (WithinLimit os) (taken c p g xs gs)
 unfolding taken
 taken_limit c p g os [] gs a = tt
 taken_limit c p g os (o ∷ xs) gs a =
@@ -189,14 +189,14 @@ taken_limit c p g os (o ∷ xs) gs a =
 -- the law ---------------------------------------------------------------------------------------------------------------------------------------
 pub record Fair (d : Day) : Type 0 where
   pub sums : (m : ℕ) → total (filled_of m) d.roll ≡ total (shares_of m) d.fills
-  pub limit : All (WithinLimit d.roll) d.fills
-  pub range : All InShown d.fills
+  pub limit : AllByRecursion (WithinLimit d.roll) d.fills
+  pub range : AllByRecursion InShown d.fills
 
 fair_same : (d e : Day) → ((m : ℕ) → total (filled_of m) e.roll ≡ total (filled_of m) d.roll) → Kept d.roll e.roll → e.fills ≡ d.fills → Fair d → Fair e
 fair_same d e s k f h = record {
   sums = λ m. s m ∙ h.sums m ∙ ap (λ fs. total (shares_of m) fs) (sym f);
-  limit = subst (λ fs. All (WithinLimit e.roll) fs) (sym f) (all_map _ _ d.fills (λ x w. kept_limit d.roll e.roll k x w) h.limit);
-  range = subst (λ fs. All InShown fs) (sym f) h.range;
+  limit = subst (λ fs. AllByRecursion (WithinLimit e.roll) fs) (sym f) (all_map _ _ d.fills (λ x w. kept_limit d.roll e.roll k x w) h.limit);
+  range = subst (λ fs. AllByRecursion InShown fs) (sym f) h.range;
 }
 
 cancel_sums : (n : ℕ) (os : List Order) (m : ℕ) → total (filled_of m) (alter n cancel os) ≡ total (filled_of m) os
@@ -339,7 +339,7 @@ taken_sum c p g (o ∷ os) gs z = go (is_better c p o) (is_at c p o) gs (is_bett
 of_print : (g : Option Range) (n p q : ℕ) → OfPrint p (low_of g) (high_of g) (record { order = n; price = p; shares = q; low = low_of g; high = high_of g })
 of_print g n p q = record { price = refl; low = refl; high = refl }
 
-taken_print : (c : Side) (p : ℕ) (g : Option Range) (os : List Order) (gs : List ℕ) → All (OfPrint p (low_of g) (high_of g)) (taken c p g os gs)
+taken_print : (c : Side) (p : ℕ) (g : Option Range) (os : List Order) (gs : List ℕ) → AllByRecursion (OfPrint p (low_of g) (high_of g)) (taken c p g os gs)
 unfolding taken
 taken_print c p g [] gs = tt
 taken_print c p g (o ∷ os) gs =
@@ -366,7 +366,7 @@ no_fills : (ns : List ℕ) → FilledBy (map Elect ns) []
 no_fills [] = refl
 no_fills (n ∷ ns) = no_fills ns
 
-one_print : (n p q : ℕ) (g : Option Range) (fs : List Fill) → 0 < q → All (OfPrint p (low_of g) (high_of g)) fs → total shares fs ≡ q → FilledBy (Print n p q (low_of g) (high_of g) ∷ []) (filled_by q n p g fs)
+one_print : (n p q : ℕ) (g : Option Range) (fs : List Fill) → 0 < q → AllByRecursion (OfPrint p (low_of g) (high_of g)) fs → total shares fs ≡ q → FilledBy (Print n p q (low_of g) (high_of g) ∷ []) (filled_by q n p g fs)
 one_print n p zero g fs h a e = absurd (omega arith)
 one_print n p (suc q) g fs h a e = (fs, [], ap (λ xs. record { order = n; price = p; shares = suc q; low = low_of g; high = high_of g } ∷ xs) (sym (append_none fs)), a, e, refl)
 
@@ -413,21 +413,21 @@ own : (n k : ℕ) (os : List Order) → Counted k (numbers os) → n < k → tot
 own n k [] c h = refl
 own n k (o ∷ os) c h = omega (arith, ap (λ b. only b o.filled) (ne_eqb o.number n (λ e. omega (arith, c.0))), own n (suc k) os c.1 (omega arith))
 
-each_own : (k : ℕ) (os : List Order) → Counted k (numbers os) → All (λ o. total (filled_of o.number) os ≡ o.filled) os
+each_own : (k : ℕ) (os : List Order) → Counted k (numbers os) → AllByRecursion (λ o. total (filled_of o.number) os ≡ o.filled) os
 each_own k [] c = tt
 each_own k (o ∷ os) c = (
   omega (arith, ap (λ b. only b o.filled) (eq-eqb o.number o.number refl), own o.number (suc k) os c.1 (omega (arith, c.0))),
   later os (above os (suc k) c.1 (omega arith)) (each_own (suc k) os c.1),
 )
   where
-    above : (xs : List Order) (j : ℕ) → Counted j (numbers xs) → k < j → All (λ x. k < x.number) xs
+    above : (xs : List Order) (j : ℕ) → Counted j (numbers xs) → k < j → AllByRecursion (λ x. k < x.number) xs
     above [] j c h = tt
     above (x ∷ xs) j c h = (omega (arith, c.0), above xs (suc j) c.1 (omega arith))
 
-    later : (xs : List Order) → All (λ x. k < x.number) xs → All (λ x. total (filled_of x.number) os ≡ x.filled) xs
-        → All (λ x. only (eqb o.number x.number) o.filled + total (filled_of x.number) os ≡ x.filled) xs
+    later : (xs : List Order) → AllByRecursion (λ x. k < x.number) xs → AllByRecursion (λ x. total (filled_of x.number) os ≡ x.filled) xs
+        → AllByRecursion (λ x. only (eqb o.number x.number) o.filled + total (filled_of x.number) os ≡ x.filled) xs
     later [] a b = tt
     later (x ∷ xs) a b = (omega (arith, ap (λ t. only t o.filled) (ne_eqb o.number x.number (λ h. omega (arith, c.0, a.0))), b.0), later xs a.1 b.1)
 
-pub filled_sums : (d : Day) → Sound d → Fair d → All (λ o. o.filled ≡ total (shares_of o.number) d.fills) d.roll
+pub filled_sums : (d : Day) → Sound d → Fair d → AllByRecursion (λ o. o.filled ≡ total (shares_of o.number) d.fills) d.roll
 filled_sums d s f = all_map _ _ d.roll (λ o h. sym h ∙ f.sums o.number) (each_own 1 d.roll s.counted)

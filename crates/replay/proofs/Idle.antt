@@ -1,7 +1,7 @@
 -- Nobody waits unless trading is paused.
 use Rattle.std.proofs.Common.{◌≡◌, ℕ, suc, ◌+◌, ◌-◌, ◌<◌, Bool, true, false, cond, not, eqb, leb, ◌⊎◌, List, [], ◌∷◌, ◌++◌, map, length, Some, None, Option, sym, refl, ap, ◌∙◌, subst, inl, inr, ⊎_elim, arith}
 use Rattle.std.proofs.lemmas.Bool.{false≢true, eq-eqb, ne_eqb, eqb-true, cases_eq}
-use Rattle.std.specs.List.{AllByRecursion as All}
+use Rattle.std.specs.List.{AllByRecursion}
 use Rattle.market.specs.declared.words.Side.{Side}
 use Rattle.market.specs.declared.words.Kind.{Kind}
 use Rattle.market.specs.declared.words.Kind.TheVariants.{Limit, Market, ImmediateOrCancel, Stop}
@@ -256,7 +256,7 @@ module _ (gifts : Rule) (lawful : LawfulRule gifts) where
   new_in_line m w = absurd (not_waiting Nowhere refl w)
 
 -- every order is found by its number --------------------------------------------------------------------------------------------------------
-pub counted_look : (k : ℕ) (os : List Order) → Counted k (numbers os) → All (λ o. look o.number os ≡ Some o) os
+pub counted_look : (k : ℕ) (os : List Order) → Counted k (numbers os) → AllByRecursion (λ o. look o.number os ≡ Some o) os
 unfolding look
 counted_look k [] c = tt
 counted_look k (o ∷ os) c = (
@@ -264,18 +264,18 @@ counted_look k (o ∷ os) c = (
   later os (above k os c.1) (counted_look (suc k) os c.1),
 )
   where
-    above : (k : ℕ) (xs : List Order) → Counted (suc k) (numbers xs) → All (λ x. k < x.number) xs
+    above : (k : ℕ) (xs : List Order) → Counted (suc k) (numbers xs) → AllByRecursion (λ x. k < x.number) xs
     above k xs c = go (suc k) xs c (omega arith)
       where
-        go : (j : ℕ) (xs : List Order) → Counted j (numbers xs) → k < j → All (λ x. k < x.number) xs
+        go : (j : ℕ) (xs : List Order) → Counted j (numbers xs) → k < j → AllByRecursion (λ x. k < x.number) xs
         go j [] c h = tt
         go j (x ∷ xs) c h = (omega (arith, c.0), go (suc j) xs c.1 (omega arith))
 
-    later : (xs : List Order) → All (λ x. k < x.number) xs → All (λ x. look x.number os ≡ Some x) xs → All (λ x. found (eqb o.number x.number) o (look x.number os) ≡ Some x) xs
+    later : (xs : List Order) → AllByRecursion (λ x. k < x.number) xs → AllByRecursion (λ x. look x.number os ≡ Some x) xs → AllByRecursion (λ x. found (eqb o.number x.number) o (look x.number os) ≡ Some x) xs
     later [] a b = tt
     later (x ∷ xs) a b = (ap (λ t. found t o (look x.number os)) (ne_eqb o.number x.number (λ h. omega (arith, c.0, a.0))) ∙ b.0, later xs a.1 b.1)
 
-pub nobody_waits : (d : Day) → Sound d → InLine d → Idle d → (d.paused ≡ true) ⊎ All (λ o. is_waiting o.place ≡ false) d.roll
+pub nobody_waits : (d : Day) → Sound d → InLine d → Idle d → (d.paused ≡ true) ⊎ AllByRecursion (λ o. is_waiting o.place ≡ false) d.roll
 nobody_waits d s i (inl p) = inl p
 nobody_waits d s i (inr e) = inr (all_map _ _ d.roll (λ o h. at o h o.place refl) (counted_look 1 d.roll s.counted))
   where

@@ -1,6 +1,6 @@
 -- A law of the day that every move keeps holds after every list of calls: the one induction for all such laws.
 use Rattle.std.proofs.Common.{◌≡◌, ℕ, zero, suc, ◌-◌, ◌<◌, Bool, true, false, not, leb, List, [], ◌∷◌, length, Some, None, Option, sym, refl, ap, ◌∙◌, subst, arith}
-use Rattle.std.specs.List.{AllByRecursion as All}
+use Rattle.std.specs.List.{AllByRecursion}
 use Rattle.market.specs.declared.words.Side.{Side}
 use Rattle.market.specs.declared.words.Kind.{Kind}
 use Rattle.market.specs.declared.words.Kind.TheVariants.{Limit, Market, ImmediateOrCancel, Stop}
@@ -141,7 +141,7 @@ module _ (gifts : Rule) (lawful : LawfulRule gifts) where
     unfolding turn left
     turn_lasts d s i = go d.paused d.line s.line
       where
-        go : (b : Bool) (ns : List ℕ) → All (Waits d.roll) ns → I (turn_of gifts b ns d)
+        go : (b : Bool) (ns : List ℕ) → AllByRecursion (Waits d.roll) ns → I (turn_of gifts b ns d)
         go true ns a = i
         go false [] a = i
         go false (n ∷ ns) a =

@@ -1,7 +1,7 @@
 -- The other changes of a day keep the books.
 use Rattle.std.proofs.Common.{◌≡◌, ℕ, ◌+◌, ◌-◌, ◌<◌, ◌≤◌, Bool, true, false, List, [], ◌∷◌, ◌++◌, map, length, Some, None, Option, sym, refl, ap, ◌∙◌, subst, arith}
 use Rattle.std.proofs.lemmas.Bool.{false≢true, and_parts}
-use Rattle.std.specs.List.{AllByRecursion as All}
+use Rattle.std.specs.List.{AllByRecursion}
 use Rattle.market.specs.declared.words.Place.{Place}
 use Rattle.market.specs.declared.words.Place.TheVariants.{Book, Line, StopFile, Nowhere}
 use Rattle.market.specs.declared.words.Order.{Order}
@@ -24,7 +24,7 @@ Waits os n = place_of (look n os) ≡ Line
 -- a day with the same roll and the same prints and cancellations
 pub books_same : (d e : Day) → d.roll ≡ e.roll → total print_of d.tape ≡ total print_of e.tape → total cancel_of d.tape ≡ total cancel_of e.tape → Books d → Books e
 books_same d e r p x b = record {
-  orders = subst (λ os. All Good os) r b.orders;
+  orders = subst (λ os. AllByRecursion Good os) r b.orders;
   few = subst (λ os. length os ≤ 512) r b.few;
   filled = λ s. ap (λ os. total (filled_on s) os) (sym r) ∙ b.filled s ∙ p;
   struck = ap (λ os. total (λ (o : Order). o.cancelled) os) (sym r) ∙ b.struck ∙ x;
@@ -79,7 +79,7 @@ good_called : (t : Bool) (o : Order) → (t ≡ true → is_filed o.place ≡ tr
 good_called true o e g = record { sum = g.sum; whole = g.whole; most = g.most; held = filed_held o.place o.«open» (e refl) g.held }
 good_called false o e g = g
 
-all_called : (p : ℕ) (os : List Order) → All Good os → All Good (map (λ o. called (is_elected p o) o) os)
+all_called : (p : ℕ) (os : List Order) → AllByRecursion Good os → AllByRecursion Good (map (λ o. called (is_elected p o) o) os)
 all_called p [] a = tt
 all_called p (o ∷ os) a = (good_called (is_elected p o) o (λ e. (and_parts (is_filed o.place) (as_good o.side p o.price) e).0) a.0, all_called p os a.1)
 

@@ -1,6 +1,6 @@
 -- The roll holds 512 orders, numbered in turn.
 use Rattle.std.proofs.Common.{◌≡◌, ℕ, suc, ◌<◌, Bool, true, false, List, [], ◌∷◌, length, Some, refl, arith}
-use Rattle.std.specs.List.{AllByRecursion as All}
+use Rattle.std.specs.List.{AllByRecursion}
 use Rattle.std.proofs.lemmas.Bool.{leb-true}
 use Rattle.market.specs.declared.words.Order.{Order}
 use Rattle.replay.specs.Days.{Day, Call, Set, LoadLimit, LoadStop, Open, Enter, CancelOrder, FloorTrade, Resume, Close, new_day}
@@ -14,7 +14,7 @@ numbered k [] h = tt
 numbered k (o ∷ os) h = (h.0, numbered (suc k) os h.1)
 
 -- a refusal whose every check passes is not given
-not_given : (k : ℕ) (cs : List Check) → All (λ (c : Check). c.code ≡ k → c.fails ≡ true → ⊥) cs → refusal cs ≡ Some k → ⊥
+not_given : (k : ℕ) (cs : List Check) → AllByRecursion (λ (c : Check). c.code ≡ k → c.fails ≡ true → ⊥) cs → refusal cs ≡ Some k → ⊥
 not_given k [] a e = let z : ◌≡◌ {A = ℕ} 0 1 = cc in omega arith
 not_given k (c ∷ cs) a e = go c.fails a.0 e (not_given k cs a.1)
   where

@@ -1,7 +1,7 @@
 -- The first price and the clean_up_lem price are good prices to trade at.
 use Rattle.std.proofs.Common.{◌≡◌, ℕ, ◌-◌, ◌<◌, ◌≤◌, Bool, true, false, cond, ◌&&◌, ◌||◌, leb, ◌⊎◌, List, [], ◌∷◌, map, Some, None, Option, sym, refl, ◌∙◌, subst, inl, inr, ⊎_elim, arith}
 use Rattle.std.proofs.lemmas.Bool.{false≢true, and_parts, and_from, ltb-true, ltb-false, leb-true, le-leb, le-ltb, cases_lt}
-use Rattle.std.specs.List.{AllByRecursion as All}
+use Rattle.std.specs.List.{AllByRecursion}
 use Rattle.market.specs.declared.words.Side.{Side}
 use Rattle.market.specs.declared.words.Side.TheVariants.{Buy, Sell}
 use Rattle.market.specs.declared.words.Kind.{Kind}
@@ -21,7 +21,7 @@ abbrev pub Among : {A : Type 0} → (A → Type 0) → List A → Type 0
 Among Q [] = ⊥
 Among Q (x ∷ xs) = Q x ⊎ Among Q xs
 
-pub meet : {A : Type 0} (Q R : A → Type 0) (G : Type 0) (xs : List A) → ((x : A) → Q x → R x → G) → All Q xs → Among R xs → G
+pub meet : {A : Type 0} (Q R : A → Type 0) (G : Type 0) (xs : List A) → ((x : A) → Q x → R x → G) → AllByRecursion Q xs → Among R xs → G
 meet Q R G [] f a m = absurd m
 meet Q R G (x ∷ xs) f a (inl r) = f x a.0 r
 meet Q R G (x ∷ xs) f a (inr m) = meet Q R G xs f a.1 m
@@ -56,7 +56,7 @@ chain Sell x q y e f = le-ltb y x (omega (arith, ltb-false q x e, ltb-false y q 
 -- the best of a list -----------------------------------------------------------------------------------------------------------
 Best : Side → List ℕ → Option ℕ → Type 0
 Best s ps None = ps ≡ []
-Best s ps (Some p) = All (λ q. better s q p ≡ false) ps × Among (λ q. q ≡ p) ps
+Best s ps (Some p) = AllByRecursion (λ q. better s q p ≡ false) ps × Among (λ q. q ≡ p) ps
 
 best_is : (s : Side) (ps : List ℕ) → Best s ps (best s ps)
 unfolding Best
@@ -68,10 +68,10 @@ best_is s (x ∷ xs) = go (best s xs) (best_is s xs)
     choose false q e h = ((self s x, all_map _ _ xs (λ y f. chain s x q y e f) h.0), inl refl)
 
     go : (o : Option ℕ) → Best s xs o → Best s (x ∷ xs) (pick s x o)
-    go None h = subst (λ ys. All (λ q. better s q x ≡ false) (x ∷ ys) × Among (λ q. q ≡ x) (x ∷ ys)) (sym h) ((self s x, tt), inl refl)
+    go None h = subst (λ ys. AllByRecursion (λ q. better s q x ≡ false) (x ∷ ys) × Among (λ q. q ≡ x) (x ∷ ys)) (sym h) ((self s x, tt), inl refl)
     go (Some q) h = choose (better s q x) q refl h
 
-pub best_all : (s : Side) (ps : List ℕ) (p : ℕ) → best s ps ≡ Some p → All (λ q. better s q p ≡ false) ps
+pub best_all : (s : Side) (ps : List ℕ) (p : ℕ) → best s ps ≡ Some p → AllByRecursion (λ q. better s q p ≡ false) ps
 unfolding Best
 best_all s ps p e = (subst (Best s ps) e (best_is s ps)).0
 
@@ -84,13 +84,13 @@ unfolding Best
 best_none s ps e = subst (Best s ps) e (best_is s ps)
 
 -- the same of orders
-pub of_prices : (t : Order → Bool) (Q : ℕ → Type 0) (os : List Order) → All Q (prices t os) → All (λ o. t o ≡ true → Q o.price) os
+pub of_prices : (t : Order → Bool) (Q : ℕ → Type 0) (os : List Order) → AllByRecursion Q (prices t os) → AllByRecursion (λ o. t o ≡ true → Q o.price) os
 unfolding prices
 of_prices t Q [] a = tt
 of_prices t Q (o ∷ os) a = go (t o) a (of_prices t Q os)
   where
-    go : (b : Bool) → All Q (map (λ o. o.price) (kept b o (those t os))) → (All Q (prices t os) → All (λ o. t o ≡ true → Q o.price) os)
-        → (b ≡ true → Q o.price) × All (λ o. t o ≡ true → Q o.price) os
+    go : (b : Bool) → AllByRecursion Q (map (λ o. o.price) (kept b o (those t os))) → (AllByRecursion Q (prices t os) → AllByRecursion (λ o. t o ≡ true → Q o.price) os)
+        → (b ≡ true → Q o.price) × AllByRecursion (λ o. t o ≡ true → Q o.price) os
     go true a ih = (λ e. a.0, ih a.1)
     go false a ih = (λ e. absurd (false≢true e), ih a)
 
@@ -133,11 +133,11 @@ unfolding prices
 to_prices t Q os m = among_map' (λ o. o.price) Q (those t os) (among_those t (λ o. Q o.price) os m)
 
 -- sums ------------------------------------------------------------------------------------------------------------------------
-total_le : {A : Type 0} (f g : A → ℕ) (xs : List A) → All (λ x. f x ≤ g x) xs → total f xs ≤ total g xs
+total_le : {A : Type 0} (f g : A → ℕ) (xs : List A) → AllByRecursion (λ x. f x ≤ g x) xs → total f xs ≤ total g xs
 total_le f g [] a = omega arith
 total_le f g (x ∷ xs) a = omega (arith, a.0, total_le f g xs a.1)
 
-total_none : {A : Type 0} (f : A → ℕ) (xs : List A) → All (λ x. f x ≡ 0) xs → total f xs ≡ 0
+total_none : {A : Type 0} (f : A → ℕ) (xs : List A) → AllByRecursion (λ x. f x ≡ 0) xs → total f xs ≡ 0
 total_none f [] a = refl
 total_none f (x ∷ xs) a = omega (arith, a.0, total_none f xs a.1)
 
@@ -146,7 +146,7 @@ only_le true b n h = rw (h refl) (omega arith)
 only_le false b n h = omega arith
 
 -- nothing stands ahead of the best price
-pub none_ahead : (c : Side) (p : ℕ) (os : List Order) → All (λ o. rests_on c o ≡ true → better c o.price p ≡ false) os → ahead c p os ≡ 0
+pub none_ahead : (c : Side) (p : ℕ) (os : List Order) → AllByRecursion (λ o. rests_on c o ≡ true → better c o.price p ≡ false) os → ahead c p os ≡ 0
 unfolding ahead
 none_ahead c p os a = total_none (λ o. only (is_better c p o) o.«open») os (all_map _ _ os (λ o h. go (rests_on c o) (better c o.price p) o.«open» h) a)
   where
@@ -191,7 +191,7 @@ at_reach r g p os m = meet (λ o. Unit {0}) (λ o. (is_reached r g o ≡ true) �
     (subst (λ x. in_limit r x ≡ true) h.1 (and_parts (rests_on (opposite r.side) o) (in_limit r o.price) k.0).1, subst (λ x. in_range g x ≡ true) h.1 k.1))
     (all_unit os) m
   where
-    all_unit : (xs : List Order) → All (λ o. Unit {0}) xs
+    all_unit : (xs : List Order) → AllByRecursion (λ o. Unit {0}) xs
     all_unit [] = tt
     all_unit (x ∷ xs) = (tt, all_unit xs)
 
@@ -208,11 +208,11 @@ module _ (r : Order) (g : Option Range) (L f p : ℕ) (os : List Order) where
   abbrev IsCleanUp : Type 0
   IsCleanUp = or (best c (those covers reach)) (best (opposite c) reach) ≡ Some p
 
-  no_better : IsCleanUp → All (λ q. better c q p ≡ false) (those covers reach)
+  no_better : IsCleanUp → AllByRecursion (λ q. better c q p ≡ false) (those covers reach)
   no_better e = go (best c (those covers reach)) refl e
     where
-      go : (x : Option ℕ) → best c (those covers reach) ≡ x → or x (best (opposite c) reach) ≡ Some p → All (λ q. better c q p ≡ false) (those covers reach)
-      go None n e = subst (λ qs. All (λ q. better c q p ≡ false) qs) (sym (best_none c (those covers reach) n)) tt
+      go : (x : Option ℕ) → best c (those covers reach) ≡ x → or x (best (opposite c) reach) ≡ Some p → AllByRecursion (λ q. better c q p ≡ false) (those covers reach)
+      go None n e = subst (λ qs. AllByRecursion (λ q. better c q p ≡ false) qs) (sym (best_none c (those covers reach) n)) tt
       go (Some q) n e = best_all c (those covers reach) p (n ∙ e)
 
   pub in_reach : IsCleanUp → Among (λ o. (is_reached r g o ≡ true) × (o.price ≡ p)) os
@@ -223,7 +223,7 @@ module _ (r : Order) (g : Option Range) (L f p : ℕ) (os : List Order) where
       go (Some q) n e = among_kept covers (λ q. q ≡ p) reach (best_in c (those covers reach) p (n ∙ e))
 
   -- the orders priced better do not cover the residual
-  pub clean_up_short : IsCleanUp → 0 < L → in_range g f ≡ true → All (λ o. rests_on c o ≡ true → better c o.price f ≡ false) os → ahead c p os < L
+  pub clean_up_short : IsCleanUp → 0 < L → in_range g f ≡ true → AllByRecursion (λ o. rests_on c o ≡ true → better c o.price f ≡ false) os → ahead c p os < L
   unfolding ahead depth
   clean_up_short e pos fr fa = ⊎_elim (λ h. h) (λ h. absurd (no h)) (cases_lt (ahead c p os) L)
     where
@@ -233,7 +233,7 @@ module _ (r : Order) (g : Option Range) (L f p : ℕ) (os : List Order) where
 
       go : (x : Option ℕ) → best (opposite c) (prices (is_better c p) os) ≡ x → L ≤ ahead c p os → ⊥
       go None n h =
-          let a : All (λ q. ⊥) (prices (is_better c p) os) = subst (λ qs. All (λ q. ⊥) qs) (sym (best_none (opposite c) (prices (is_better c p) os) n)) tt in
+          let a : AllByRecursion (λ q. ⊥) (prices (is_better c p) os) = subst (λ qs. AllByRecursion (λ q. ⊥) qs) (sym (best_none (opposite c) (prices (is_better c p) os) n)) tt in
           let z : ahead c p os ≡ 0 = total_none (λ o. only (is_better c p o) o.«open») os
           (all_map _ _ os (λ o k. none (is_better c p o) o.«open» k) (of_prices (is_better c p) (λ q. ⊥) os a)) in
           omega arith
@@ -242,7 +242,7 @@ module _ (r : Order) (g : Option Range) (L f p : ℕ) (os : List Order) where
           none true n k = absurd (k refl)
           none false n k = refl
       go (Some w) n h =
-          let a : All (λ o. is_better c p o ≡ true → better (opposite c) o.price w ≡ false) os
+          let a : AllByRecursion (λ o. is_better c p o ≡ true → better (opposite c) o.price w ≡ false) os
           = of_prices (is_better c p) (λ q. better (opposite c) q w ≡ false) os (best_all (opposite c) (prices (is_better c p) os) w n) in
           let m : Among (λ o. (is_better c p o ≡ true) × (o.price ≡ w)) os
           = in_prices (is_better c p) (λ q. q ≡ w) os (best_in (opposite c) (prices (is_better c p) os) w n) in

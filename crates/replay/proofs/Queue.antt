@@ -1,7 +1,7 @@
 -- Nobody is in line twice; so waiting orders and filed stops are never more than the orders of the roll, and 2,049 free lines always suffice.
 use Rattle.std.proofs.Common.{◌≡◌, ℕ, suc, ◌+◌, ◌-◌, ◌<◌, ◌≤◌, Bool, true, false, not, ◌||◌, eqb, ltb, List, [], ◌∷◌, ◌++◌, length, Some, None, Option, sym, refl, ap, ◌∙◌, subst, arith}
 use Rattle.std.proofs.lemmas.Bool.{false≢true, and_parts, eq-eqb, eqb-true, le-ltb, leb-false}
-use Rattle.std.specs.List.{AllByRecursion as All}
+use Rattle.std.specs.List.{AllByRecursion}
 use Rattle.market.specs.declared.words.Side.TheVariants.{Buy, Sell}
 use Rattle.market.specs.declared.words.Place.{Place}
 use Rattle.market.specs.declared.words.Place.TheVariants.{Book, Line, StopFile, Nowhere}
@@ -27,13 +27,13 @@ use Rattle.market.specs.Bounds.{is_price, is_shares}
 
 abbrev pub Once : List ℕ → Type 0
 Once [] = Unit {0}
-Once (n ∷ ns) = All (λ m. m ≡ n → ⊥) ns × Once ns
+Once (n ∷ ns) = AllByRecursion (λ m. m ≡ n → ⊥) ns × Once ns
 
-all_those : {A : Type 0} (Q : A → Type 0) (t : A → Bool) (xs : List A) → All Q xs → All Q (those t xs)
+all_those : {A : Type 0} (Q : A → Type 0) (t : A → Bool) (xs : List A) → AllByRecursion Q xs → AllByRecursion Q (those t xs)
 all_those Q t [] a = tt
 all_those Q t (x ∷ xs) a = go (t x) (all_those Q t xs a.1)
   where
-    go : (b : Bool) → All Q (those t xs) → All Q (kept b x (those t xs))
+    go : (b : Bool) → AllByRecursion Q (those t xs) → AllByRecursion Q (kept b x (those t xs))
     go true ih = (a.0, ih)
     go false ih = ih
 
@@ -45,16 +45,16 @@ once_without n (m ∷ ns) o = go (not (eqb m n)) (once_without n ns o.1)
     go true ih = (all_those (λ k. k ≡ m → ⊥) (λ k. not (eqb k n)) ns o.0, ih)
     go false ih = ih
 
-once_append : (ns ms : List ℕ) → Once ns → Once ms → All (λ n. All (λ m. m ≡ n → ⊥) ms) ns → Once (ns ++ ms)
+once_append : (ns ms : List ℕ) → Once ns → Once ms → AllByRecursion (λ n. AllByRecursion (λ m. m ≡ n → ⊥) ms) ns → Once (ns ++ ms)
 once_append [] ms o p a = p
 once_append (n ∷ ns) ms o p a = (all_append (λ m. m ≡ n → ⊥) ns ms o.0 a.0, once_append ns ms o.1 p a.1)
 
 -- numbers of elected stops
-elected_above : (t : Order → Bool) (k j : ℕ) (os : List Order) → k < j → Counted j (numbers os) → All (λ m. m ≡ k → ⊥) (numbers (those t os))
+elected_above : (t : Order → Bool) (k j : ℕ) (os : List Order) → k < j → Counted j (numbers os) → AllByRecursion (λ m. m ≡ k → ⊥) (numbers (those t os))
 elected_above t k j [] h c = tt
 elected_above t k j (o ∷ os) h c = go (t o) (elected_above t k (suc j) os (omega arith) c.1)
   where
-    go : (b : Bool) → All (λ m. m ≡ k → ⊥) (numbers (those t os)) → All (λ m. m ≡ k → ⊥) (numbers (kept b o (those t os)))
+    go : (b : Bool) → AllByRecursion (λ m. m ≡ k → ⊥) (numbers (those t os)) → AllByRecursion (λ m. m ≡ k → ⊥) (numbers (kept b o (those t os)))
     go true ih = ((λ e. omega (arith, c.0)), ih)
     go false ih = ih
 
@@ -67,7 +67,7 @@ elected_once t k (o ∷ os) c = go (t o) (elected_once t (suc k) os c.1)
     go false ih = ih
 
 -- who waits is not elected
-not_elected : (p n k : ℕ) (os : List Order) → Counted k (numbers os) → Waits os n → All (λ m. m ≡ n → ⊥) (numbers (those (is_elected p) os))
+not_elected : (p n k : ℕ) (os : List Order) → Counted k (numbers os) → Waits os n → AllByRecursion (λ m. m ≡ n → ⊥) (numbers (those (is_elected p) os))
 unfolding look
 not_elected p n k [] c w = tt
 not_elected p n k (o ∷ os) c w = go (is_elected p o) (eqb o.number n) refl refl w (λ w. not_elected p n (suc k) os c.1 w)
@@ -75,8 +75,8 @@ not_elected p n k (o ∷ os) c w = go (is_elected p o) (eqb o.number n) refl ref
     out : {A : Type 0} → is_elected p o ≡ true → o.place ≡ Line → A
     out e w = absurd (false≢true (sym (ap is_filed w) ∙ (and_parts (is_filed o.place) (as_good o.side p o.price) e).0))
 
-    go : (t b : Bool) → is_elected p o ≡ t → eqb o.number n ≡ b → place_of (found b o (look n os)) ≡ Line → (Waits os n → All (λ m. m ≡ n → ⊥) (numbers (those (is_elected p) os)))
-        → All (λ m. m ≡ n → ⊥) (numbers (kept t o (those (is_elected p) os)))
+    go : (t b : Bool) → is_elected p o ≡ t → eqb o.number n ≡ b → place_of (found b o (look n os)) ≡ Line → (Waits os n → AllByRecursion (λ m. m ≡ n → ⊥) (numbers (those (is_elected p) os)))
+        → AllByRecursion (λ m. m ≡ n → ⊥) (numbers (kept t o (those (is_elected p) os)))
     go true true f e w ih = out f w
     go true false f e w ih = ((λ h. false≢true (sym e ∙ same h)), ih w)
       where
@@ -95,7 +95,7 @@ counted_most k n (o ∷ os) c w = go (eqb o.number n) refl w (counted_most (suc 
     go true e w ih = let z : o.number ≡ n = eqb-true o.number n e in omega (arith, c.0)
     go false e w ih = omega (arith, ih w)
 
-line_once : (w : Place) (n : ℕ) (ns : List ℕ) → Once ns → All (λ m. m < n) ns → Once (line_with w n ns)
+line_once : (w : Place) (n : ℕ) (ns : List ℕ) → Once ns → AllByRecursion (λ m. m < n) ns → Once (line_with w n ns)
 line_once Book n ns o a = o
 line_once Line n ns o a = once_append ns (n ∷ []) o (tt, tt) (all_map _ _ ns (λ m h. ((λ e. omega arith), tt)) a)
 line_once StopFile n ns o a = o
@@ -138,13 +138,13 @@ one_less n os r i w =
     (total_alter (λ o. only (is_waiting o.place) 1) n cancel os) in
     omega arith
 
-line_most : (ns : List ℕ) (os : List Order) → Once ns → All (Waits os) ns → length ns ≤ waiting os
+line_most : (ns : List ℕ) (os : List Order) → Once ns → AllByRecursion (Waits os) ns → length ns ≤ waiting os
 line_most [] os o a = omega arith
 line_most (n ∷ ns) os o a =
     let x : (r : Order) × (look n os ≡ Some r) × (r.place ≡ Line) = waiter os n a.0 in
     omega (arith, one_less n os x.0 x.1 x.2, line_most ns (alter n cancel os) o.1 (still ns o.0 a.1))
   where
-    still : (ms : List ℕ) → All (λ m. m ≡ n → ⊥) ms → All (Waits os) ms → All (Waits (alter n cancel os)) ms
+    still : (ms : List ℕ) → AllByRecursion (λ m. m ≡ n → ⊥) ms → AllByRecursion (Waits os) ms → AllByRecursion (Waits (alter n cancel os)) ms
     still [] x y = tt
     still (m ∷ ms) x y = (ap place_of (look_past m n cancel os cancel_number x.0) ∙ y.0, still ms x.1 y.1)
 
@@ -169,7 +169,7 @@ Other c = c.code ≡ 44 → ⊥
 none_some : {A : Type 0} → ◌≡◌ {A = Option ℕ} None (Some 44) → A
 none_some e = absurd (let z : ◌≡◌ {A = ℕ} 0 1 = cc in omega arith)
 
-never : (cs : List Check) → All Other cs → refusal cs ≡ Some 44 → ⊥
+never : (cs : List Check) → AllByRecursion Other cs → refusal cs ≡ Some 44 → ⊥
 never [] a e = none_some e
 never (c ∷ cs) a e = go c.fails e (never cs a.1)
   where
@@ -177,7 +177,7 @@ never (c ∷ cs) a e = go c.fails e (never cs a.1)
     go true e ih = a.0 cc
     go false e ih = ih e
 
-last_fails : (cs : List Check) (z : Check) → All Other cs → refusal (cs ++ (z ∷ [])) ≡ Some 44 → All (λ (c : Check). c.fails ≡ false) cs × (z.fails ≡ true)
+last_fails : (cs : List Check) (z : Check) → AllByRecursion Other cs → refusal (cs ++ (z ∷ [])) ≡ Some 44 → AllByRecursion (λ (c : Check). c.fails ≡ false) cs × (z.fails ≡ true)
 last_fails [] z a e = (tt, go z.fails e)
   where
     go : (b : Bool) → first_of b z.code None ≡ Some 44 → b ≡ true
@@ -186,9 +186,9 @@ last_fails [] z a e = (tt, go z.fails e)
 last_fails (c ∷ cs) z a e = go c.fails refl e (last_fails cs z a.1)
   where
     go : (b : Bool) → c.fails ≡ b → first_of b c.code (refusal (cs ++ (z ∷ []))) ≡ Some 44
-        → (refusal (cs ++ (z ∷ [])) ≡ Some 44 → All (λ (c : Check). c.fails ≡ false) cs × (z.fails ≡ true)) → ((c.fails ≡ false) × All (λ (c : Check). c.fails ≡ false) cs) × (z.fails ≡ true)
+        → (refusal (cs ++ (z ∷ [])) ≡ Some 44 → AllByRecursion (λ (c : Check). c.fails ≡ false) cs × (z.fails ≡ true)) → ((c.fails ≡ false) × AllByRecursion (λ (c : Check). c.fails ≡ false) cs) × (z.fails ≡ true)
     go true f e ih = absurd (a.0 cc)
-    go false f e ih = let r : All (λ (c : Check). c.fails ≡ false) cs × (z.fails ≡ true) = ih e in ((f, r.0), r.1)
+    go false f e ih = let r : AllByRecursion (λ (c : Check). c.fails ≡ false) cs × (z.fails ≡ true) = ih e in ((f, r.0), r.1)
 
 short : (f n : ℕ) → ltb f n ≡ true → n ≤ f → ⊥
 short f n e h = false≢true (sym (le-ltb f n h) ∙ e)
@@ -201,21 +201,21 @@ enough room d (LoadStop s m p q) b l f e = never (checks room d (LoadStop s m p 
 enough room d Open b l f e = never (checks room d Open) (omega arith) e
 enough room d (Enter k s m p q g) b l f e =
     let cs : List Check = only_in Trading d ∷ order_checks k m p q d ++ (file_full room k d ∷ []) in
-    let r : All (λ (c : Check). c.fails ≡ false) cs × (ltb g (need 1 d) ≡ true) = last_fails cs (check (ltb g (need 1 d)) 44) (omega arith) e in
+    let r : AllByRecursion (λ (c : Check). c.fails ≡ false) cs × (ltb g (need 1 d) ≡ true) = last_fails cs (check (ltb g (need 1 d)) 44) (omega arith) e in
     short g (need 1 d) r.1 (omega (arith, leb-false 512 (length d.roll) r.0.1.1.1.1.0))
 enough room d (CancelOrder m n g) b l f e =
     let r : Option Order = look n d.roll in
     let cs : List Check = only_in Trading d ∷ check (absent r) 51 ∷ check (not (eqb (member_of r) m)) 52 ∷ check (eqb (open_of r) 0) 53 ∷ [] in
-    let x : All (λ (c : Check). c.fails ≡ false) cs × (eqb g 0 ≡ true) = last_fails cs (check (eqb g 0) 44) (omega arith) e in
+    let x : AllByRecursion (λ (c : Check). c.fails ≡ false) cs × (eqb g 0 ≡ true) = last_fails cs (check (eqb g 0) 44) (omega arith) e in
     let z : g ≡ 0 = eqb-true g 0 x.1 in omega arith
 enough room d (FloorTrade p q g) b l f e =
     let cs : List Check = only_in Trading d ∷ check (not (is_price p)) 41 ∷ check (not (is_shares q)) 42
     ∷ check (resting_at (λ b. ltb p b) Buy d.roll || resting_at (λ b. ltb b p) Sell d.roll) 61 ∷ [] in
-    let r : All (λ (c : Check). c.fails ≡ false) cs × (ltb g (suc (need 0 d)) ≡ true) = last_fails cs (check (ltb g (suc (need 0 d))) 44) (omega arith) e in
+    let r : AllByRecursion (λ (c : Check). c.fails ≡ false) cs × (ltb g (suc (need 0 d)) ≡ true) = last_fails cs (check (ltb g (suc (need 0 d))) 44) (omega arith) e in
     short g (suc (need 0 d)) r.1 (omega arith)
 enough room d (Resume g) b l f e =
     let cs : List Check = only_in Trading d ∷ check (not d.paused) 71 ∷ [] in
-    let r : All (λ (c : Check). c.fails ≡ false) cs × (ltb g (need 0 d) ≡ true) = last_fails cs (check (ltb g (need 0 d)) 44) (omega arith) e in
+    let r : AllByRecursion (λ (c : Check). c.fails ≡ false) cs × (ltb g (need 0 d) ≡ true) = last_fails cs (check (ltb g (need 0 d)) 44) (omega arith) e in
     short g (need 0 d) r.1 (omega arith)
 enough room d Close b l f e = never (checks room d Close) (omega arith) e
 

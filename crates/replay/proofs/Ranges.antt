@@ -1,6 +1,6 @@
 -- A range in force stays through a call.
 use Rattle.std.proofs.Common.{◌≡◌, ℕ, zero, suc, ◌+◌, ◌-◌, Bool, true, false, not, leb, List, [], ◌∷◌, ◌++◌, map, length, Some, None, Option, sym, refl, ap, ◌∙◌, subst, arith}
-use Rattle.std.specs.List.{AllByRecursion as All}
+use Rattle.std.specs.List.{AllByRecursion}
 use Rattle.market.specs.declared.words.Side.{Side}
 use Rattle.market.specs.declared.words.Kind.{Kind}
 use Rattle.market.specs.declared.words.Kind.TheVariants.{Limit, Market, ImmediateOrCancel, Stop}
@@ -31,15 +31,15 @@ use Rattle.market.specs.Bounds.{is_shares}
 module _ (g : Range) (ts : List TapeLine) where
   -- since ts every print shows the range
   abbrev pub Since : List TapeLine → Type 0
-  Since xs = (ls : List TapeLine) × (xs ≡ ts ++ ls) × All (Shows g.low g.high) ls
+  Since xs = (ls : List TapeLine) × (xs ≡ ts ++ ls) × AllByRecursion (Shows g.low g.high) ls
 
-  since_more : (xs ks : List TapeLine) → All (Shows g.low g.high) ks → Since xs → Since (xs ++ ks)
+  since_more : (xs ks : List TapeLine) → AllByRecursion (Shows g.low g.high) ks → Since xs → Since (xs ++ ks)
   since_more xs ks a h = (h.0 ++ ks, ap (λ x. x ++ ks) h.1 ∙ append_append ts h.0 ks, all_append (Shows g.low g.high) h.0 ks h.2 a)
 
   abbrev pub Shown : Day → Type 0
   Shown d = (d.range ≡ Some g) × Since d.tape
 
-  elections : (ns : List ℕ) → All (Shows g.low g.high) (map Elect ns)
+  elections : (ns : List ℕ) → AllByRecursion (Shows g.low g.high) (map Elect ns)
   elections [] = tt
   elections (n ∷ ns) = (tt, elections ns)
 
@@ -123,14 +123,14 @@ module _ (g : Range) (ts : List TapeLine) where
     became_shown room d (Resume f) e s w h = work_shown _ (same_sound d (resumed d) refl refl refl refl s) (w, h)
     became_shown room d Close e s w h = (w, h)
 
-  shown_lines : (e : Day) → Shown e → (e.range ≡ Some g) × All (Shows g.low g.high) (beyond ts e.tape)
-  shown_lines e h = (h.0, subst (λ xs. All (Shows g.low g.high) xs) (sym (ap (beyond ts) h.1.1 ∙ beyond_append ts h.1.0)) h.1.2)
+  shown_lines : (e : Day) → Shown e → (e.range ≡ Some g) × AllByRecursion (Shows g.low g.high) (beyond ts e.tape)
+  shown_lines e h = (h.0, subst (λ xs. AllByRecursion (Shows g.low g.high) xs) (sym (ap (beyond ts) h.1.1 ∙ beyond_append ts h.1.0)) h.1.2)
 
 step_shown : (gifts : Rule) (lawful : LawfulRule gifts) (room : ℕ) (d : Day) (c : Call) (g : Range) → Sound d → refusal (checks room d c) ≡ None → range_for d c ≡ Some g
-    → ((step gifts room d c).day.range ≡ Some g) × All (Shows g.low g.high) (handed d (step gifts room d c).day)
+    → ((step gifts room d c).day.range ≡ Some g) × AllByRecursion (Shows g.low g.high) (handed d (step gifts room d c).day)
 unfolding step perform
 step_shown gifts lawful room d c g s e w =
-    subst (λ x. ((decided x d (perform gifts d c)).day.range ≡ Some g) × All (Shows g.low g.high) (handed d (decided x d (perform gifts d c)).day)) (sym e)
+    subst (λ x. ((decided x d (perform gifts d c)).day.range ≡ Some g) × AllByRecursion (Shows g.low g.high) (handed d (decided x d (perform gifts d c)).day)) (sym e)
     (shown_lines g d.tape (became gifts d c) (became_shown g d.tape gifts lawful room d c e s w ([], sym (append_none d.tape), tt)))
 
 pub range_stays : RangeStays

@@ -2,7 +2,7 @@
 use Rattle.std.proofs.Common.{◌≡◌, ℕ, suc, ◌+◌, ◌-◌, ◌%◌, ◌≤◌, Bool, true, false, cond, ◌&&◌, ◌||◌, eqb, List, [], ◌∷◌, map, length, Some, None, Option, sym, refl, ap, ◌∙◌, arith}
 use Rattle.std.proofs.lemmas.Bool.{ne_eqb, false≢true, and_parts, eqb-true, ltb-true, eqb-false}
 use Rattle.std.proofs.lemmas.Bool.Decides.{nat_tests}
-use Rattle.std.specs.List.{AllZip, AllByRecursion as All}
+use Rattle.std.specs.List.{AllZip, AllByRecursion}
 use Rattle.market.specs.declared.words.Side.{Side}
 use Rattle.market.specs.declared.words.Side.TheVariants.{Buy, Sell}
 use Rattle.market.specs.declared.words.Place.{Place}
@@ -72,13 +72,13 @@ total_alter g n f (o ∷ os) = go (eqb o.number n) (total_alter g n f os)
     go false ih = omega arith
 
 pub all_alter : (Q : Order → Type 0) (n : ℕ) (f : Order → Order) (os : List Order)
-    → ((o : Order) → look n os ≡ Some o → Q o → Q (f o)) → All Q os → All Q (alter n f os)
+    → ((o : Order) → look n os ≡ Some o → Q o → Q (f o)) → AllByRecursion Q os → AllByRecursion Q (alter n f os)
 unfolding alter look
 all_alter Q n f [] h a = tt
 all_alter Q n f (o ∷ os) h a = go (eqb o.number n) h (λ k. all_alter Q n f os k a.1)
   where
     go : (b : Bool) → ((r : Order) → found b o (look n os) ≡ Some r → Q r → Q (f r))
-        → (((r : Order) → look n os ≡ Some r → Q r → Q (f r)) → All Q (alter n f os)) → All Q (here b f o os (alter n f os))
+        → (((r : Order) → look n os ≡ Some r → Q r → Q (f r)) → AllByRecursion Q (alter n f os)) → AllByRecursion Q (here b f o os (alter n f os))
     go true k ih = (k o refl a.0, a.1)
     go false k ih = (a.0, ih k)
 
@@ -137,12 +137,12 @@ depth_split c p (o ∷ os) = go (is_at c p o) (up_to_rests_on (rests_on c o) c o
     go true e ih = omega arith
     go false e ih = omega arith
 
-pub row_lawful : (c : Side) (p : ℕ) (os : List Order) → All Good os → All LawfulShares (row c p os)
+pub row_lawful : (c : Side) (p : ℕ) (os : List Order) → AllByRecursion Good os → AllByRecursion LawfulShares (row c p os)
 unfolding row
 row_lawful c p [] a = tt
 row_lawful c p (o ∷ os) a = go (is_at c p o) refl (row_lawful c p os a.1)
   where
-    go : (t : Bool) → is_at c p o ≡ t → All LawfulShares (row c p os) → All LawfulShares (map (λ o. o.«open») (kept t o (those (is_at c p) os)))
+    go : (t : Bool) → is_at c p o ≡ t → AllByRecursion LawfulShares (row c p os) → AllByRecursion LawfulShares (map (λ o. o.«open») (kept t o (those (is_at c p) os)))
     go true e ih =
         let h : 100 ≤ o.«open» = book_held o.place o.«open» (and_parts (is_book o.place) (same_side o.side c) (and_parts (rests_on c o) (eqb o.price p) e).0).0 a.0.held in
         ((a.0.whole, h, omega (arith, a.0.sum, a.0.most)), ih)
@@ -170,7 +170,7 @@ only_whole : (t : Bool) (n : ℕ) → n % 100 ≡ 0 → only t n % 100 ≡ 0
 only_whole true n e = e
 only_whole false n e = refl
 
-pub total_whole : (t : Order → Bool) (os : List Order) → All Good os → total (λ o. only (t o) o.«open») os % 100 ≡ 0
+pub total_whole : (t : Order → Bool) (os : List Order) → AllByRecursion Good os → total (λ o. only (t o) o.«open») os % 100 ≡ 0
 total_whole t [] a = refl
 total_whole t (o ∷ os) a = omega (arith, only_whole (t o) o.«open» a.0.whole, total_whole t os a.1)
 
@@ -185,14 +185,14 @@ dealt_is Q false false gs o f i = i
 pub dealt_number : (b t : Bool) (gs : List ℕ) (o : Order) → (dealt b t gs o).number ≡ o.number
 dealt_number b t gs o = dealt_is (λ u. u.number ≡ o.number) b t gs o (λ q. refl) refl
 
-pub deal_good : (c : Side) (p : ℕ) (os : List Order) (gs : List ℕ) → AllZip Gift gs (row c p os) → All Good os → All Good (deal c p os gs)
+pub deal_good : (c : Side) (p : ℕ) (os : List Order) (gs : List ℕ) → AllZip Gift gs (row c p os) → AllByRecursion Good os → AllByRecursion Good (deal c p os gs)
 unfolding deal row
 deal_good c p [] gs z a = tt
 deal_good c p (o ∷ os) gs z a = go (is_better c p o) (is_at c p o) gs (is_better_is_at c p o) z (λ gs z. deal_good c p os gs z a.1)
   where
     go : (b t : Bool) (gs : List ℕ) → (b ≡ true → t ≡ true → ⊥) → AllZip Gift gs (map (λ o. o.«open») (kept t o (those (is_at c p) os)))
-        → ((gs : List ℕ) → AllZip Gift gs (row c p os) → All Good (deal c p os gs))
-        → All Good (dealt b t gs o ∷ deal c p os (after t gs))
+        → ((gs : List ℕ) → AllZip Gift gs (row c p os) → AllByRecursion Good (deal c p os gs))
+        → AllByRecursion Good (dealt b t gs o ∷ deal c p os (after t gs))
     go true true gs x z ih = absurd (x refl refl)
     go true false gs x z ih = (good_fill o.«open» o a.0 (omega arith) a.0.whole, ih gs z)
     go false true [] x z ih = absurd z

@@ -1,7 +1,7 @@
 -- A run, and so a call, keeps the day sound.
 use Rattle.std.proofs.Common.{◌≡◌, ℕ, zero, suc, ◌-◌, ◌<◌, ◌≤◌, Bool, true, false, cond, not, ◌&&◌, eqb, ◌⊎◌, List, [], ◌∷◌, map, Some, None, Option, sym, refl, ap, ◌∙◌, subst, ⊎_elim, arith}
 use Rattle.std.proofs.lemmas.Bool.{false≢true, and_parts, and_from, eq-eqb, ne_eqb, eqb-true, eqb-false, cases_eq}
-use Rattle.std.specs.List.{AllByRecursion as All}
+use Rattle.std.specs.List.{AllByRecursion}
 use Rattle.market.specs.declared.words.Side.{Side}
 use Rattle.market.specs.declared.words.Kind.{Kind}
 use Rattle.market.specs.declared.words.Kind.TheVariants.{Limit, Market, ImmediateOrCancel, Stop}
@@ -35,13 +35,13 @@ Counted k (n ∷ ns) = (n ≡ k) × Counted (suc k) ns
 pub record Sound (d : Day) : Type 0 where
   pub books : Books d
   pub counted : Counted 1 (numbers d.roll)
-  pub line : All (Waits d.roll) d.line
+  pub line : AllByRecursion (Waits d.roll) d.line
 
 -- in the midst of the run of order r, as it was when it came to run
 pub record Mid (r : Order) (d : Day) : Type 0 where
   pub books : Books d
   pub counted : Counted 1 (numbers d.roll)
-  pub line : All (λ m. (m ≡ r.number → ⊥) → Waits d.roll m) d.line
+  pub line : AllByRecursion (λ m. (m ≡ r.number → ⊥) → Waits d.roll m) d.line
   pub runner : Order
   pub is : look r.number d.roll ≡ Some runner
   pub spotted : runner.place ≡ where_with runner.«open» Line
@@ -101,7 +101,7 @@ spot_open m w h = ap (λ b. cond b Nowhere w) (ne_eqb m 0 (λ e. omega arith))
 pub waiting_held : (w : Place) (n : ℕ) → w ≡ Line → Held w n → 100 ≤ n
 waiting_held w n e h = subst (λ x. Held x n) e h
 
-waits_deal : (c : Side) (p : ℕ) (os : List Order) (gs : List ℕ) (m : ℕ) → All Good os → Waits os m → Waits (deal c p os gs) m
+waits_deal : (c : Side) (p : ℕ) (os : List Order) (gs : List ℕ) (m : ℕ) → AllByRecursion Good os → Waits os m → Waits (deal c p os gs) m
 waits_deal c p os gs m a w =
     let x : (r : Order) × (look m os ≡ Some r) × (r.place ≡ Line) = waiter os m w in
     let h : 100 ≤ x.0.«open» = waiting_held x.0.place x.0.«open» x.2 (find_all Good m os x.0 x.1 a).held in
@@ -121,18 +121,18 @@ waits_called p m (o ∷ os) w = go (eqb o.number m) (ap (λ x. eqb x m) (called_
     go false e w ih = ap (λ b. place_of (found b (called (is_elected p o) o) (look m (map (λ o. called (is_elected p o) o) os)))) e ∙ ih w
 
 -- numbers of those elected are above k
-above : (t : Order → Bool) (k : ℕ) (os : List Order) → Counted (suc k) (numbers os) → All (λ m. k < m) (numbers (those t os))
+above : (t : Order → Bool) (k : ℕ) (os : List Order) → Counted (suc k) (numbers os) → AllByRecursion (λ m. k < m) (numbers (those t os))
 above t k os a = go t k (suc k) os (omega arith) a
   where
-    go : (t : Order → Bool) (k j : ℕ) (os : List Order) → k < j → Counted j (numbers os) → All (λ m. k < m) (numbers (those t os))
+    go : (t : Order → Bool) (k j : ℕ) (os : List Order) → k < j → Counted j (numbers os) → AllByRecursion (λ m. k < m) (numbers (those t os))
     go t k j [] h a = tt
     go t k j (o ∷ os) h a = pick (t o) (go t k (suc j) os (omega arith) a.1)
       where
-        pick : (b : Bool) → All (λ m. k < m) (numbers (those t os)) → All (λ m. k < m) (numbers (kept b o (those t os)))
+        pick : (b : Bool) → AllByRecursion (λ m. k < m) (numbers (those t os)) → AllByRecursion (λ m. k < m) (numbers (kept b o (those t os)))
         pick true ih = (omega (arith, a.0), ih)
         pick false ih = ih
 
-waits_new : (p k : ℕ) (os : List Order) → Counted k (numbers os) → All (Waits (map (λ o. called (is_elected p o) o) os)) (numbers (those (is_elected p) os))
+waits_new : (p k : ℕ) (os : List Order) → Counted k (numbers os) → AllByRecursion (Waits (map (λ o. called (is_elected p o) o) os)) (numbers (those (is_elected p) os))
 unfolding look
 waits_new p k [] a = tt
 waits_new p k (o ∷ os) a = go (is_elected p o) (all_map _ _ (numbers (those (is_elected p) os)) (λ m h. h) (below (numbers (those (is_elected p) os)) (above (is_elected p) k os a.1) (waits_new p (suc k) os a.1)))
@@ -140,7 +140,7 @@ waits_new p k (o ∷ os) a = go (is_elected p o) (all_map _ _ (numbers (those (i
     new : List Order
     new = map (λ o. called (is_elected p o) o) os
 
-    below : (ms : List ℕ) → All (λ m. k < m) ms → All (Waits new) ms → All (λ m. (b : Bool) → Waits (called b o ∷ new) m) ms
+    below : (ms : List ℕ) → AllByRecursion (λ m. k < m) ms → AllByRecursion (Waits new) ms → AllByRecursion (λ m. (b : Bool) → Waits (called b o ∷ new) m) ms
     below [] x y = tt
     below (m ∷ ms) x y = (
       (λ b. let e : eqb (called b o).number m ≡ false = ne_eqb (called b o).number m (λ h. omega (arith, called_number b o, a.0, x.0)) in
@@ -148,7 +148,7 @@ waits_new p k (o ∷ os) a = go (is_elected p o) (all_map _ _ (numbers (those (i
       below ms x.1 y.1,
     )
 
-    go : (b : Bool) → All (λ m. (b : Bool) → Waits (called b o ∷ new) m) (numbers (those (is_elected p) os)) → All (Waits (called b o ∷ new)) (numbers (kept b o (those (is_elected p) os)))
+    go : (b : Bool) → AllByRecursion (λ m. (b : Bool) → Waits (called b o ∷ new) m) (numbers (those (is_elected p) os)) → AllByRecursion (Waits (called b o ∷ new)) (numbers (kept b o (those (is_elected p) os)))
     go true ih =
         (ap (λ t. place_of (found t (put Line o) (look o.number new))) (eq-eqb o.number o.number refl), all_map _ _ (numbers (those (is_elected p) os)) (λ m h. h true) ih)
     go false ih = all_map _ _ (numbers (those (is_elected p) os)) (λ m h. h false) ih
@@ -169,16 +169,16 @@ some_inj e = cc
 pub fill_number : (q : ℕ) (o : Order) → (fill q o).number ≡ o.number
 fill_number q o = refl
 
-all_without : (n : ℕ) (Q : ℕ → Type 0) (ms : List ℕ) → All (λ m. (m ≡ n → ⊥) → Q m) ms → All Q (without n ms)
+all_without : (n : ℕ) (Q : ℕ → Type 0) (ms : List ℕ) → AllByRecursion (λ m. (m ≡ n → ⊥) → Q m) ms → AllByRecursion Q (without n ms)
 all_without n Q [] a = tt
 all_without n Q (m ∷ ms) a = go (eqb m n) refl (all_without n Q ms a.1)
   where
-    go : (b : Bool) → eqb m n ≡ b → All Q (without n ms) → All Q (kept (not b) m (without n ms))
+    go : (b : Bool) → eqb m n ≡ b → AllByRecursion Q (without n ms) → AllByRecursion Q (kept (not b) m (without n ms))
     go true e ih = ih
     go false e ih = (a.0 (eqb-false m n e), ih)
 
 pub but : (n : ℕ) (f : Order → Order) (d : Day) → ((o : Order) → (f o).number ≡ o.number)
-    → All (λ m. (m ≡ n → ⊥) → Waits d.roll m) d.line → All (Waits (alter n f d.roll)) (without n d.line)
+    → AllByRecursion (λ m. (m ≡ n → ⊥) → Waits d.roll m) d.line → AllByRecursion (Waits (alter n f d.roll)) (without n d.line)
 but n f d k a = all_without n _ d.line (all_map _ _ d.line (λ m h ne. waits_other n m f d.roll k ne (h ne)) a)
 
 pub look_number : (n : ℕ) (os : List Order) (r : Order) → look n os ≡ Some r → r.number ≡ n
@@ -224,7 +224,7 @@ module _ (gifts : Rule) (lawful : LawfulRule gifts) where
 
   -- nothing resting is better than the first price
   abbrev pub Clear : Side → ℕ → List Order → Type 0
-  Clear c f os = All (λ o. rests_on c o ≡ true → better c o.price f ≡ false) os
+  Clear c f os = AllByRecursion (λ o. rests_on c o ≡ true → better c o.price f ≡ false) os
 
   rests_on_fill : (c : Side) (q : ℕ) (o : Order) → rests_on c (fill q o) ≡ true → rests_on c o ≡ true
   rests_on_fill c q o e = go (eqb (o.«open» - q) 0) e
@@ -424,7 +424,7 @@ module _ (gifts : Rule) (lawful : LawfulRule gifts) where
   unfolding turn left
   turn_sound d s = go d.paused d.line s.line
     where
-      go : (b : Bool) (ns : List ℕ) → All (Waits d.roll) ns → Sound (turn_of gifts b ns d)
+      go : (b : Bool) (ns : List ℕ) → AllByRecursion (Waits d.roll) ns → Sound (turn_of gifts b ns d)
       go true ns a = s
       go false [] a = s
       go false (n ∷ ns) a =

@@ -1,7 +1,7 @@
 -- Nobody waits unless trading is paused; bid below offer (pieces).
 use Rattle.std.proofs.Common.{◌≡◌, ℕ, zero, suc, ◌+◌, ◌-◌, ◌<◌, ◌≤◌, Bool, true, false, cond, not, ◌&&◌, eqb, ◌⊎◌, List, [], ◌∷◌, map, length, Some, None, Option, sym, refl, ap, ◌∙◌, subst, inl, inr, ⊎_elim, arith}
 use Rattle.std.proofs.lemmas.Bool.{eq-eqb}
-use Rattle.std.specs.List.{AllByRecursion as All}
+use Rattle.std.specs.List.{AllByRecursion}
 use Rattle.market.specs.declared.words.Side.{Side}
 use Rattle.market.specs.declared.words.Kind.{Kind}
 use Rattle.market.specs.declared.words.Kind.TheVariants.{Limit, Market, ImmediateOrCancel, Stop}
@@ -158,7 +158,7 @@ module _ (gifts : Rule) where
       less_le (busy d₂) (busy d) _ (omega (arith, busy_print r a d, busy_print r b d₁))
       (centre_less (busy d₂) d.range a _ (elect_less (busy d₂) b _ (elect_less (busy d₂) a _ (settle_less r ns d₂ (print_line r b d₁ ∙ print_line r a d ∙ e)))))
 
-  turn_less : (d : Day) → All (Waits d.roll) d.line → Less (busy d) (turn gifts d) ⊎ (d.line ≡ [])
+  turn_less : (d : Day) → AllByRecursion (Waits d.roll) d.line → Less (busy d) (turn gifts d) ⊎ (d.line ≡ [])
   unfolding turn
   turn_less d w = go d.paused d.line refl refl w
     where
@@ -166,7 +166,7 @@ module _ (gifts : Rule) where
       at n ns None i e = inr (leave_less n ns d e)
       at n ns (Some r) i e = run_less r ns d (e ∙ ap (λ m. m ∷ ns) (sym (look_number n d.roll r i)))
 
-      go : (b : Bool) (ns : List ℕ) → d.paused ≡ b → d.line ≡ ns → All (Waits d.roll) ns → Less (busy d) (turn_of gifts b ns d) ⊎ (ns ≡ [])
+      go : (b : Bool) (ns : List ℕ) → d.paused ≡ b → d.line ≡ ns → AllByRecursion (Waits d.roll) ns → Less (busy d) (turn_of gifts b ns d) ⊎ (ns ≡ [])
       go true ns p e w = inl (inl p)
       go false [] p e w = inr refl
       go false (n ∷ ns) p e w = inl (at n ns (look n d.roll) refl e)

@@ -2,7 +2,7 @@
 use Rattle.std.proofs.Common.{◌≡◌, ℕ, zero, suc, ◌+◌, ◌-◌, min, Bool, true, false, cond, ◌&&◌, ◌||◌, eqb, leb, ◌⊎◌, List, [], ◌∷◌, ◌++◌, map, Some, None, Option, sym, refl, ap, ◌∙◌, subst, inl, inr, ⊎_elim, arith}
 use mathlib.Core.Path.{fun_ext}
 use Rattle.std.proofs.lemmas.Bool.{false≢true}
-use Rattle.std.specs.List.{AllZip, AllByRecursion as All}
+use Rattle.std.specs.List.{AllZip, AllByRecursion}
 use Rattle.market.specs.declared.words.Side.{Side}
 use Rattle.market.specs.declared.words.Kind.{Kind}
 use Rattle.market.specs.declared.words.Kind.TheVariants.{Limit, Market, ImmediateOrCancel, Stop}
@@ -246,22 +246,22 @@ module _ (N : ℕ → Bool) where
   abbrev pub Quiet : Day → Type 0
   Quiet = Unelected N
 
-  pub all_front : {A : Type 0} (Q : A → Type 0) (xs ys : List A) → All Q (xs ++ ys) → All Q xs
+  pub all_front : {A : Type 0} (Q : A → Type 0) (xs ys : List A) → AllByRecursion Q (xs ++ ys) → AllByRecursion Q xs
   all_front Q [] ys a = tt
   all_front Q (x ∷ xs) ys a = (a.0, all_front Q xs ys a.1)
 
-  all_back : {A : Type 0} (Q : A → Type 0) (xs ys : List A) → All Q (xs ++ ys) → All Q ys
+  all_back : {A : Type 0} (Q : A → Type 0) (xs ys : List A) → AllByRecursion Q (xs ++ ys) → AllByRecursion Q ys
   all_back Q [] ys a = a
   all_back Q (x ∷ xs) ys a = all_back Q xs ys a.1
 
-  quiet_numbers : (ns : List ℕ) → All quiet (map Elect ns) → All (λ n. N n ≡ false) ns
+  quiet_numbers : (ns : List ℕ) → AllByRecursion quiet (map Elect ns) → AllByRecursion (λ n. N n ≡ false) ns
   quiet_numbers [] a = tt
   quiet_numbers (n ∷ ns) a = (a.0, quiet_numbers ns a.1)
 
   abbrev elected : ℕ → List Order → List ℕ
   elected p os = map (λ o. o.number) (those (is_elected p) os)
 
-  elect_alike : (p : ℕ) (os us : List Order) → Rolls os us → All (λ n. N n ≡ false) (elected p os) → All (λ n. N n ≡ false) (elected p us)
+  elect_alike : (p : ℕ) (os us : List Order) → Rolls os us → AllByRecursion (λ n. N n ≡ false) (elected p os) → AllByRecursion (λ n. N n ≡ false) (elected p us)
       → Rolls (map (λ o. called (is_elected p o) o) os) (map (λ o. called (is_elected p o) o) us) × (elected p os ≡ elected p us)
   elect_alike p [] [] z a b = (tt, refl)
   elect_alike p [] (u ∷ us) z a b = absurd z
@@ -273,14 +273,14 @@ module _ (N : ℕ → Bool) where
           × (elected p (o ∷ os) ≡ elected p (u ∷ us))
 
       Tail : Type 0
-      Tail = All (λ n. N n ≡ false) (elected p os) → All (λ n. N n ≡ false) (elected p us)
+      Tail = AllByRecursion (λ n. N n ≡ false) (elected p os) → AllByRecursion (λ n. N n ≡ false) (elected p us)
           → Rolls (map (λ o. called (is_elected p o) o) os) (map (λ o. called (is_elected p o) o) us) × (elected p os ≡ elected p us)
 
-      drop : (b : Bool) (o : Order) (os : List Order) → All (λ n. N n ≡ false) (map (λ o. o.number) (kept b o (those (is_elected p) os))) → All (λ n. N n ≡ false) (elected p os)
+      drop : (b : Bool) (o : Order) (os : List Order) → AllByRecursion (λ n. N n ≡ false) (map (λ o. o.number) (kept b o (those (is_elected p) os))) → AllByRecursion (λ n. N n ≡ false) (elected p os)
       drop true o os a = a.1
       drop false o os a = a
 
-      out : (b : Bool) (o : Order) (os : List Order) → N o.number ≡ true → All (λ n. N n ≡ false) (map (λ o. o.number) (kept b o (those (is_elected p) os))) → b ≡ false
+      out : (b : Bool) (o : Order) (os : List Order) → N o.number ≡ true → AllByRecursion (λ n. N n ≡ false) (map (λ o. o.number) (kept b o (those (is_elected p) os))) → b ≡ false
       out true o os n a = absurd (false≢true (sym a.0 ∙ n))
       out false o os n a = refl
 
@@ -602,7 +602,7 @@ module _ (N : ℕ → Bool) where
         (subst (λ ns. Twin (turn gifts d) (turn_of gifts d.paused ns e)) t.line
         (go d.paused d.line s.line x (subst (λ ns. Quiet (turn_of gifts d.paused ns e)) (sym t.line) (subst (λ b. Quiet (turn_of gifts b e.line e)) (sym t.paused) y))))
       where
-        go : (b : Bool) (ns : List ℕ) → All (Waits d.roll) ns → Quiet (turn_of gifts b ns d) → Quiet (turn_of gifts b ns e) → Twin (turn_of gifts b ns d) (turn_of gifts b ns e)
+        go : (b : Bool) (ns : List ℕ) → AllByRecursion (Waits d.roll) ns → Quiet (turn_of gifts b ns d) → Quiet (turn_of gifts b ns e) → Twin (turn_of gifts b ns d) (turn_of gifts b ns e)
         go true ns a x y = t
         go false [] a x y = t
         go false (n ∷ ns) a x y =

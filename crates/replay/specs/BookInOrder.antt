@@ -5,7 +5,7 @@ use Rattle.market.specs.declared.words.Order.{Order}
 use Rattle.market.specs.declared.words.TapeLine.{TapeLine}
 use Rattle.market.specs.declared.words.TapeLine.TheVariants.{Print, Cancel, Elect, Floor}
 use Rattle.market.specs.Orders.{in_limit}
-use Rattle.std.specs.List.{AllByRecursion as All}
+use Rattle.std.specs.List.{AllByRecursion}
 use Rattle.sharing.specs.Shares.{LawfulRule}
 use Rattle.replay.specs.Lists.{only, total}
 use Rattle.replay.specs.Days.{Fill, Day, new_day, Call, Rule}
@@ -36,24 +36,24 @@ abbrev pub FilledBy : List TapeLine → List Fill → Type 0
 FilledBy [] fs = fs ≡ []
 FilledBy (Print n p q lo hi ∷ ls) fs =
     (gs : List Fill) × (rest : List Fill) × (fs ≡ record { order = n; price = p; shares = q; low = lo; high = hi } ∷ gs ++ rest)
-    × All (OfPrint p lo hi) gs × (total (λ f. f.shares) gs ≡ q) × FilledBy ls rest
+    × AllByRecursion (OfPrint p lo hi) gs × (total (λ f. f.shares) gs ≡ q) × FilledBy ls rest
 FilledBy (Cancel n q ∷ ls) fs = FilledBy ls fs
 FilledBy (Elect n ∷ ls) fs = FilledBy ls fs
 FilledBy (Floor p q ∷ ls) fs = FilledBy ls fs
 
 pub record Orderly (d : Day) : Type 0 where
   -- nobody waits unless trading is paused
-  pub idle : (d.paused ≡ true) ⊎ All (λ o. is_waiting o.place ≡ false) d.roll
+  pub idle : (d.paused ≡ true) ⊎ AllByRecursion (λ o. is_waiting o.place ≡ false) d.roll
   -- the best bid is below the best offer
   pub apart : (b o : ℕ × ℕ) → quote Buy d ≡ Some b → quote Sell d ≡ Some o → b.0 < o.0
   -- the fills are those of the P lines
   pub fills : FilledBy d.tape d.fills
   -- no fill passes its order's limit or the range in force, which is the range shown
-  pub limit : All (WithinLimit d.roll) d.fills
-  pub range : All InShown d.fills
+  pub limit : AllByRecursion (WithinLimit d.roll) d.fills
+  pub range : AllByRecursion InShown d.fills
   -- an order's filled shares are the sum of its fills
-  pub filled : All (λ o. o.filled ≡ total (shares_of o.number) d.fills) d.roll
+  pub filled : AllByRecursion (λ o. o.filled ≡ total (shares_of o.number) d.fills) d.roll
 
--- All this holds after every list of calls.
+-- AllByRecursion this holds after every list of calls.
 abbrev pub BookInOrder : Type 0
 BookInOrder = (gifts : Rule) → LawfulRule gifts → (room : ℕ) (cs : List Call) → Orderly (after_calls gifts room new_day cs)

@@ -1,6 +1,6 @@
 -- The numbers of a day stay in bounds. Assumes nothing.
 use Rattle.std.specs.Prelude.{◌≡◌, ℕ, ◌≤◌, false, List, Some, None, Option}
-use Rattle.std.specs.List.{AllByRecursion as All}
+use Rattle.std.specs.List.{AllByRecursion}
 use Rattle.market.specs.declared.words.Kind.TheVariants.{Limit}
 use Rattle.market.specs.declared.words.Place.TheVariants.{Book}
 use Rattle.market.specs.declared.words.Order.{Order}
@@ -24,7 +24,7 @@ FineRange None = Unit {0}
 FineRange (Some g) = (1 ≤ g.low) × (g.low ≤ g.high) × (g.high ≤ 100200)
 
 pub record Bounds (d : Day) : Type 0 where
-  pub orders : All Fine d.roll
+  pub orders : AllByRecursion Fine d.roll
   pub last : d.last ≤ 100000
   pub class : (1 ≤ d.class) × (d.class ≤ 3)
   pub range : FineRange d.range

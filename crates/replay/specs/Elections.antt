@@ -8,7 +8,7 @@ use Rattle.market.specs.declared.words.Order.{Order}
 use Rattle.market.specs.declared.words.TapeLine.{TapeLine}
 use Rattle.market.specs.declared.words.TapeLine.TheVariants.{Print, Cancel, Elect, Floor}
 use Rattle.market.specs.Sides.{as_good}
-use Rattle.std.specs.List.{AllByRecursion as All}
+use Rattle.std.specs.List.{AllByRecursion}
 use Rattle.sharing.specs.Shares.{LawfulRule}
 use Rattle.replay.specs.Days.{Day, new_day, Call, LoadStop, Enter, Rule}
 use Rattle.replay.specs.Rolls.{look, place_of}
@@ -62,8 +62,8 @@ pub record Withdrawn (n : ℕ) (s : Side) (l : ℕ) (ls : List TapeLine) : Type 
   pub shares : ℕ
   pub after : List TapeLine
   pub lines : ls ≡ before ++ (Cancel n shares ∷ after)
-  pub asleep : All (Untouched n s l) before
-  pub never : All (λ x. elects n x ≡ false) after
+  pub asleep : AllByRecursion (Untouched n s l) before
+  pub never : AllByRecursion (λ x. elects n x ≡ false) after
 
 -- The first line that reached it brought its E line, before the next run, and there is no other E line of it.
 pub record Elected (n : ℕ) (s : Side) (l : ℕ) (ls : List TapeLine) : Type 0 where
@@ -72,16 +72,16 @@ pub record Elected (n : ℕ) (s : Side) (l : ℕ) (ls : List TapeLine) : Type 0 
   pub between : List TapeLine
   pub after : List TapeLine
   pub lines : ls ≡ before ++ (first ∷ between ++ (Elect n ∷ after))
-  pub asleep : All (Untouched n s l) before
+  pub asleep : AllByRecursion (Untouched n s l) before
   pub reached : reaches s l first ≡ true
-  pub run : All (λ x. (of_run (run_by first) x ≡ true) × (elects n x ≡ false)) between
-  pub once : All (λ x. elects n x ≡ false) after
+  pub run : AllByRecursion (λ x. (of_run (run_by first) x ≡ true) × (elects n x ≡ false)) between
+  pub once : AllByRecursion (λ x. elects n x ≡ false) after
 
 -- what the lines since a stop was filed tell of it, by where it is now
 abbrev pub Fate : ℕ → Side → ℕ → Place → List TapeLine → Type 0
 Fate n s l Book ls = Withdrawn n s l ls ⊎ Elected n s l ls
 Fate n s l Line ls = Withdrawn n s l ls ⊎ Elected n s l ls
-Fate n s l StopFile ls = All (Untouched n s l) ls
+Fate n s l StopFile ls = AllByRecursion (Untouched n s l) ls
 Fate n s l Nowhere ls = Withdrawn n s l ls ⊎ Elected n s l ls
 
 -- A filed stop stays filed while no print or floor trade reaches it and nobody cancels it; otherwise it was cancelled, or the first that reached it elected it.

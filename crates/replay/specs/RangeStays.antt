@@ -5,7 +5,7 @@ use Rattle.market.specs.declared.words.Range.{Range}
 use Rattle.market.specs.declared.words.TapeLine.{TapeLine}
 use Rattle.market.specs.declared.words.TapeLine.TheVariants.{Print, Cancel, Elect, Floor}
 use Rattle.market.specs.Ranges.{range_around}
-use Rattle.std.specs.List.{AllByRecursion as All}
+use Rattle.std.specs.List.{AllByRecursion}
 use Rattle.sharing.specs.Shares.{LawfulRule}
 use Rattle.replay.specs.Days.{Day, new_day, Call, Set, LoadLimit, LoadStop, Open, Enter, CancelOrder, FloorTrade, Resume, Close, Rule}
 use Rattle.replay.specs.Calls.{refusal, checks, handed, step, after_calls}
@@ -33,7 +33,7 @@ abbrev pub RangeStays : Type 0
 RangeStays = (gifts : Rule) → LawfulRule gifts → (room : ℕ) (cs : List Call) (c : Call) (g : Range)
     → refusal (checks room (after_calls gifts room new_day cs) c) ≡ None → range_for (after_calls gifts room new_day cs) c ≡ Some g
     → ((step gifts room (after_calls gifts room new_day cs) c).day.range ≡ Some g)
-    × All (Shows g.low g.high) (handed (after_calls gifts room new_day cs) (step gifts room (after_calls gifts room new_day cs) c).day)
+    × AllByRecursion (Shows g.low g.high) (handed (after_calls gifts room new_day cs) (step gifts room (after_calls gifts room new_day cs) c).day)
 
 -- Where none is in force -----------------------------------------------------------------------------------------------
 abbrev pub NoPrint : TapeLine → Type 0
@@ -60,17 +60,17 @@ pub record Begins (class : ℕ) (column : Column) (ls : List TapeLine) (after : 
   pub later : List TapeLine
   pub range : Range
   pub lines : ls ≡ before ++ (earlier ++ (Print runner price shares 0 0 ∷ later))
-  pub silent : All NoPrint before
-  pub first : All (Rangeless runner) earlier
+  pub silent : AllByRecursion NoPrint before
+  pub first : AllByRecursion (Rangeless runner) earlier
   pub around : range_around class column price ≡ Some range
-  pub shown : All (Shows range.low range.high) later
+  pub shown : AllByRecursion (Shows range.low range.high) later
   pub stays : after ≡ Some range
 
 -- A performed call that begins to run orders with no range in force prints nothing and leaves none, or its first run that prints sets it.
 abbrev pub RangeBegins : Type 0
 RangeBegins = (gifts : Rule) → LawfulRule gifts → (room : ℕ) (cs : List Call) (c : Call)
     → refusal (checks room (after_calls gifts room new_day cs) c) ≡ None → range_for (after_calls gifts room new_day cs) c ≡ None
-    → (All NoPrint (handed (after_calls gifts room new_day cs) (step gifts room (after_calls gifts room new_day cs) c).day)
+    → (AllByRecursion NoPrint (handed (after_calls gifts room new_day cs) (step gifts room (after_calls gifts room new_day cs) c).day)
     × ((step gifts room (after_calls gifts room new_day cs) c).day.range ≡ None))
     ⊎ Begins (after_calls gifts room new_day cs).class (after_calls gifts room new_day cs).column
     (handed (after_calls gifts room new_day cs) (step gifts room (after_calls gifts room new_day cs) c).day) (step gifts room (after_calls gifts room new_day cs) c).day.range

@@ -6,7 +6,7 @@ use Rattle.market.specs.declared.words.Order.{Order}
 use Rattle.market.specs.declared.words.TapeLine.{TapeLine}
 use Rattle.market.specs.declared.words.TapeLine.TheVariants.{Print, Cancel, Elect, Floor}
 use Rattle.market.specs.Sides.{same_side}
-use Rattle.std.specs.List.{AllByRecursion as All}
+use Rattle.std.specs.List.{AllByRecursion}
 use Rattle.sharing.specs.Shares.{LawfulRule}
 use Rattle.replay.specs.Lists.{only, total}
 use Rattle.replay.specs.Days.{Day, new_day, Call, Set, LoadLimit, LoadStop, Open, Enter, CancelOrder, FloorTrade, Resume, Close, Rule}
@@ -32,7 +32,7 @@ filled_on s o = only (same_side o.side s) o.filled
 
 pub record Conserved (d : Day) : Type 0 where
   -- each order: what was accepted is filled, cancelled or open
-  pub each : All (λ o. o.accepted ≡ o.filled + o.cancelled + o.«open») d.roll
+  pub each : AllByRecursion (λ o. o.accepted ≡ o.filled + o.cancelled + o.«open») d.roll
   -- the day: each printed share is one bought and one sold
   pub sum : (totals d).accepted ≡ 2 * (totals d).printed + (totals d).cancelled + (totals d).«open»
   -- printed is the sum of the P lines, cancelled that of the X lines

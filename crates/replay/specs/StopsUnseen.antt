@@ -4,7 +4,7 @@ use Rattle.market.specs.declared.words.Side.{Side}
 use Rattle.market.specs.declared.words.Kind.TheVariants.{Stop}
 use Rattle.market.specs.declared.words.TapeLine.{TapeLine}
 use Rattle.market.specs.declared.words.TapeLine.TheVariants.{Print, Cancel, Elect, Floor}
-use Rattle.std.specs.List.{AllZip, AllByRecursion as All}
+use Rattle.std.specs.List.{AllZip, AllByRecursion}
 use Rattle.sharing.specs.Shares.{LawfulRule}
 use Rattle.replay.specs.Days.{Day, new_day, Call, LoadStop, Enter, Outcome, Rule}
 use Rattle.replay.specs.Calls.{refusal, checks, handed, step, after_calls}
@@ -22,7 +22,7 @@ unelected N (Elect n) = N n ≡ false
 unelected N (Floor p q) = Unit {0}
 
 abbrev pub Unelected : (ℕ → Bool) → Day → Type 0
-Unelected N d = All (unelected N) d.tape
+Unelected N d = AllByRecursion (unelected N) d.tape
 
 -- equal lines, or the X lines of one stop that differs
 abbrev pub SameLine : (ℕ → Bool) → TapeLine → TapeLine → Type 0

@@ -1,12 +1,12 @@
 -- A law on gifts that no two gifts of one quantity can both keep leaves one answer. Assumes nothing.
 use Rattle.std.proofs.Common.{◌≡◌, ℕ, zero, suc, ◌+◌, ◌%◌, ◌<◌, ◌≤◌, true, ◌⊎◌, List, [], ◌∷◌, length, get_or, sym, refl, ◌∙◌, subst, inl, inr, ⊎_elim, arith}
-use Rattle.std.specs.List.{AllZip, AllByRecursion as All}
+use Rattle.std.specs.List.{AllZip, AllByRecursion}
 use Rattle.std.proofs.lemmas.List.{ext_get_or}
 use Rattle.std.proofs.lemmas.Bool.{cases_lt, cases_order, cond-true}
 use Rattle.sharing.specs.Shares.{lot, total, zeros, shareable, guarded, LawfulRule}
 use Rattle.sharing.specs.Turns.{KeepsOrder, TakesTurns, Gives, Alone}
 
-pub at_all : (gs : List ℕ) → All (λ gift. gift % lot ≡ 0) gs → (i : ℕ) → get_or gs i 0 % lot ≡ 0
+pub at_all : (gs : List ℕ) → AllByRecursion (λ gift. gift % lot ≡ 0) gs → (i : ℕ) → get_or gs i 0 % lot ≡ 0
 at_all [] h i = refl
 at_all (g ∷ gs) h zero = h.0
 at_all (g ∷ gs) h (suc i) = at_all gs h.1 i

@@ -1,7 +1,7 @@
 -- Rounds by levels: after whole rounds every entry has been given shares up to the same level. Assumes nothing.
 use Rattle.std.proofs.Common.{◌≡◌, ℕ, zero, suc, ◌+◌, ◌-◌, ◌*◌, ◌/◌, ◌%◌, ◌<◌, ◌≤◌, min, Bool, true, false, cond, not, ◌&&◌, ◌||◌, eqb, ltb, ◌⊎◌, List, [], ◌∷◌, length, sym, refl, ap, ◌∙◌, subst, ⊎_elim, mul_assoc, suc-mul, lt_of_mul-lt-mul_right, mul-le-mul_left, zero-mul, le-mul_of_pos_right, div-mul-le_self, mul_left_comm, arith}
 use native.Mathlib.Nat.{div-zero, lt-div-mul-add}
-use Rattle.std.specs.List.{AllByRecursion as All}
+use Rattle.std.specs.List.{AllByRecursion}
 use Rattle.std.proofs.lemmas.Bool.{cases_lt, cases_eq, cases_Bool, false≢true, eqb-true, eq-eqb, or_cases, or_left, or_right}
 use Rattle.std.proofs.lemmas.Bool.Decides.{nat_tests}
 use Rattle.sharing.specs.Shares.{lot, most_shares, most_entries, total, zeros}
@@ -44,7 +44,7 @@ pub not_spent : (row : List ℕ) (q : ℕ) → total (round row q) < q → round
 not_spent [] q h = refl
 not_spent (a ∷ rest) q h = both _ _ _ _ (omega arith) (not_spent rest (q - min lot (min a q)) (omega arith))
 
-whole_total : (l : ℕ) (row : List ℕ) → Whole l → All Whole row → total (whole_round (beyond l row)) ≡ lot * above l row
+whole_total : (l : ℕ) (row : List ℕ) → Whole l → AllByRecursion Whole row → total (whole_round (beyond l row)) ≡ lot * above l row
 whole_total l [] e h = refl
 whole_total l (a ∷ rest) e h =
     let i = whole_total l rest e h.1 in
@@ -60,7 +60,7 @@ up_to_next l [] later e = refl
 up_to_next l (a ∷ rest) [] e = absurd (omega arith)
 up_to_next l (a ∷ rest) (x ∷ xs) e = both _ _ _ _ (omega arith) (up_to_next l rest xs (omega arith))
 
-one_round : (k l q : ℕ) (row : List ℕ) → Whole l → All Whole row → lot * above l row ≤ q → after l (suc k) row q ≡ after (l + lot) k row (q - lot * above l row)
+one_round : (k l q : ℕ) (row : List ℕ) → Whole l → AllByRecursion Whole row → lot * above l row ≤ q → after l (suc k) row q ≡ after (l + lot) k row (q - lot * above l row)
 one_round k l q row e h p =
     let open' : List ℕ = beyond l row in
     let t : total (whole_round open') ≡ lot * above l row = whole_total l row e h in
@@ -135,7 +135,7 @@ last_is : (l : ℕ) (row : List ℕ) (q : ℕ) → last_round l row q ≡ pointw
 last_is l [] q = refl
 last_is l (a ∷ rest) q = ap (λ r. (min a l + min lot (min (a - l) q)) ∷ r) (last_is l rest (q - min lot (min (a - l) q)))
 
-pub last_after : (k l q : ℕ) (row : List ℕ) → Whole l → All Whole row → q ≤ lot * k → (0 < above l row → q < lot * above l row) → last_round l row q ≡ after l k row q
+pub last_after : (k l q : ℕ) (row : List ℕ) → Whole l → AllByRecursion Whole row → q ≤ lot * k → (0 < above l row → q < lot * above l row) → last_round l row q ≡ after l k row q
 last_after k l q row e h f over =
     let t : total (whole_round (beyond l row)) ≡ lot * above l row = whole_total l row e h in
     let full : total (round (beyond l row) q) < q → total (beyond l row) ≡ 0 =
@@ -159,7 +159,7 @@ above_same l m (a ∷ rest) h b =
 after_same : (l l' k k' q q' : ℕ) (row : List ℕ) → l ≡ l' → k ≡ k' → q ≡ q' → after l k row q ≡ after l' k' row q'
 after_same l l' k k' q q' row e f g = ap (λ n. after n k row q) e ∙ ap (λ n. after l' n row q) f ∙ ap (λ n. after l' k' row n) g
 
-jump : (m k l q : ℕ) (row : List ℕ) → Whole l → All Whole row → l + lot * m ≤ least_above l row → m * (lot * above l row) ≤ q → after l (m + k) row q ≡ after (l + lot * m) k row (q - m * (lot * above l row))
+jump : (m k l q : ℕ) (row : List ℕ) → Whole l → AllByRecursion Whole row → l + lot * m ≤ least_above l row → m * (lot * above l row) ≤ q → after l (m + k) row q ≡ after (l + lot * m) k row (q - m * (lot * above l row))
 jump zero k l q row e h b p = after_same _ _ _ _ _ _ row (omega arith) (omega arith) (omega arith)
 jump (suc m) k l q row e h b p =
     let c : ℕ = lot * above l row in
@@ -175,7 +175,7 @@ abbrev has : ℕ → List ℕ → Bool
 has x [] = false
 has x (a ∷ rest) = eqb x a || has x rest
 
-has_all : (P : ℕ → Type 0) (x : ℕ) (row : List ℕ) → All P row → has x row ≡ true → P x
+has_all : (P : ℕ → Type 0) (x : ℕ) (row : List ℕ) → AllByRecursion P row → has x row ≡ true → P x
 has_all P x [] h e = absurd (false≢true e)
 has_all P x (a ∷ rest) h e =
     ⊎_elim (λ (same : eqb x a ≡ true). subst P (sym (eqb-true x a same)) h.0) (λ (more : has x rest ≡ true). has_all P x rest h.1 more) (or_cases (eqb x a) (has x rest) e)
@@ -189,12 +189,12 @@ least_over : (l : ℕ) (row : List ℕ) → l < most_shares → l < least_above 
 least_over l [] h = h
 least_over l (a ∷ rest) h = let i = least_over l rest h in grind (arith, nat_tests)
 
-under_most : (l : ℕ) (row : List ℕ) → All (Lots most_shares) row → 0 < above l row → l < most_shares
+under_most : (l : ℕ) (row : List ℕ) → AllByRecursion (Lots most_shares) row → 0 < above l row → l < most_shares
 under_most l [] h some = absurd (omega arith)
 under_most l (a ∷ rest) h some =
     ⊎_elim (λ (s : l < a). omega (arith, h.0.most)) (λ (s : a ≤ l). under_most l rest h.1 (grind (arith, nat_tests))) (cases_lt l a)
 
-least_has : (l : ℕ) (row : List ℕ) → All (Lots most_shares) row → 0 < above l row → has (least_above l row) row ≡ true
+least_has : (l : ℕ) (row : List ℕ) → AllByRecursion (Lots most_shares) row → 0 < above l row → has (least_above l row) row ≡ true
 least_has l [] h some = absurd (omega arith)
 least_has l (a ∷ rest) h some =
     let later : least_above l (a ∷ rest) ≡ least_above l rest → 0 < above l rest → has (least_above l (a ∷ rest)) (a ∷ rest) ≡ true =
@@ -216,12 +216,12 @@ pub record Least (l : ℕ) (row : List ℕ) : Type 0 where
   pub lawful : Lots most_shares (least_above l row)
   pub held : has (least_above l row) row ≡ true
 
-pub least_is : (l : ℕ) (row : List ℕ) → All (Lots most_shares) row → 0 < above l row → Least l row
+pub least_is : (l : ℕ) (row : List ℕ) → AllByRecursion (Lots most_shares) row → 0 < above l row → Least l row
 least_is l row h some =
     let i : has (least_above l row) row ≡ true = least_has l row h some in
     record { over = least_over l row (under_most l row h some); lawful = has_all (Lots most_shares) (least_above l row) row h i; held = i }
 
-pub cost_asks : (l n least : ℕ) (row : List ℕ) → All (Lots most_shares) row → n ≡ above l row → least ≡ least_above l row → n ≤ most_entries → 0 < n → (l ≤ least) × ((least ≤ most_shares) × (n ≤ most_entries))
+pub cost_asks : (l n least : ℕ) (row : List ℕ) → AllByRecursion (Lots most_shares) row → n ≡ above l row → least ≡ least_above l row → n ≤ most_entries → 0 < n → (l ≤ least) × ((least ≤ most_shares) × (n ≤ most_entries))
 cost_asks l n least row h count next few some = let i = least_is l row h (omega arith) in (omega (arith, i.over), (omega (arith, i.lawful.most), few))
 
 -- how many different entries are above a level
@@ -264,7 +264,7 @@ start_beyond (a ∷ rest) = both _ _ _ _ (omega arith) (start_beyond rest)
 pub after_none : (k q : ℕ) (row : List ℕ) → after 0 k row q ≡ rounds k row q
 after_none k q row = ap (λ r. pointwise ◌+◌ (up_to 0 row) (rounds k r q)) (start_beyond row) ∙ start_plus row (rounds k row q) (rounds_size k row q)
 
-module _ (row given : List ℕ) (l q n least k : ℕ) (h : All (Lots most_shares) row) (e : Whole l) (count : n ≡ above l row) (next : least ≡ least_above l row) (f : q ≤ lot * k) (is : after l k row q ≡ given) where
+module _ (row given : List ℕ) (l q n least k : ℕ) (h : AllByRecursion (Lots most_shares) row) (e : Whole l) (count : n ≡ above l row) (next : least ≡ least_above l row) (f : q ≤ lot * k) (is : after l k row q ≡ given) where
   pub next_level : 0 < n → (least - l) * n ≤ q → (j : ℕ) × (q - (least - l) * n ≤ lot * j) × (after least j row (q - (least - l) * n) ≡ given)
   next_level some pays' =
       let m : ℕ = (least - l) / lot in

@@ -1,6 +1,6 @@
 -- The steps of the loops. Assumes nothing.
 use Rattle.std.proofs.Common.{◌≡◌, ℕ, ◌+◌, ◌-◌, ◌*◌, ◌<◌, ◌≤◌, min, Bool, true, false, cond, ◌&&◌, ltb, List, [], ◌∷◌, ◌++◌, length, get_or, take, drop, set, sym, ap, ◌∙◌, append_assoc, append-nil, arith}
-use Rattle.std.specs.List.{AllByRecursion as All}
+use Rattle.std.specs.List.{AllByRecursion}
 use Rattle.std.proofs.lemmas.List.{take_more_set, drop-set-lt, at_drop_more, take_all, drop_all}
 use Rattle.std.proofs.lemmas.Bool.{lt-ltb, le-ltb}
 use Rattle.std.proofs.lemmas.Bool.Decides.{nat_tests}
@@ -66,6 +66,6 @@ not_lawful row e = grind (arith, nat_tests)
 pub lawful_told : (row : List ℕ) → 0 < length row → length row ≤ most_entries → all_lawful row ≡ true → true ≡ lawful_row row
 lawful_told row some few all = grind (arith, nat_tests)
 
-pub total_most : (row : List ℕ) → All (Lots most_shares) row → total row ≤ most_shares * length row
+pub total_most : (row : List ℕ) → AllByRecursion (Lots most_shares) row → total row ≤ most_shares * length row
 total_most [] h = omega arith
 total_most (a ∷ rest) h = omega (arith, h.0.most, total_most rest h.1)

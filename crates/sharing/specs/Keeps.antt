@@ -1,7 +1,7 @@
 -- Proofs, not definitions: both rules keep what every rule owes. They stand here since the rules' impls cite them.
 use Rattle.std.specs.Prelude.{◌≡◌, ℕ, zero, suc, ◌+◌, ◌-◌, ◌*◌, ◌/◌, ◌%◌, ◌<◌, ◌≤◌, min, Bool, true, false, cond, ◌&&◌, List, [], ◌∷◌, length, ◌==◌, nat_le, refl}
 use Rattle.std.proofs.Common.{sym, ap, subst, ◌∙◌, arith}
-use Rattle.std.specs.List.{AllZip, AllByRecursion as All}
+use Rattle.std.specs.List.{AllZip, AllByRecursion}
 use Rattle.std.proofs.lemmas.Bool.{and_parts, and_from, leb-true, le-leb, eqb-true, eq-eqb, cond-true, cond-false}
 use Rattle.sharing.specs.Shares.{lot, most_shares, most_entries, total, zeros, whole_lots, all_lawful, lawful_row, shareable, guarded, LawfulRule}
 use Rattle.sharing.specs.Turns.{in_row_order, by_time, pointwise, round, rounds, in_rounds, by_rotation}
@@ -18,7 +18,7 @@ lots_parts bound n e =
     let y : (nat_le lot n ≡ true) × (nat_le n bound ≡ true) = and_parts (nat_le lot n) (nat_le n bound) x.0 in
     record { least = leb-true lot n y.0; most = leb-true n bound y.1; lots = eqb-true (n % lot) 0 x.1 }
 
-pub lawful_each : (row : List ℕ) → all_lawful row ≡ true → All (Lots most_shares) row
+pub lawful_each : (row : List ℕ) → all_lawful row ≡ true → AllByRecursion (Lots most_shares) row
 lawful_each [] e = tt
 lawful_each (a ∷ rest) e =
     let x : (whole_lots most_shares a ≡ true) × (all_lawful rest ≡ true) = and_parts (whole_lots most_shares a) (all_lawful rest) e in
@@ -27,7 +27,7 @@ lawful_each (a ∷ rest) e =
 pub record LawfulRow (row : List ℕ) : Type 0 where
   pub some : 1 ≤ length row
   pub few : length row ≤ most_entries
-  pub each : All (Lots most_shares) row
+  pub each : AllByRecursion (Lots most_shares) row
 
 pub row_parts : (row : List ℕ) → lawful_row row ≡ true → LawfulRow row
 row_parts row e =
@@ -49,7 +49,7 @@ pub lots_from : (bound n : ℕ) → Lots bound n → whole_lots bound n ≡ true
 lots_from bound n h =
     and_from (nat_le lot n && nat_le n bound) (n % lot == 0) (and_from (nat_le lot n) (nat_le n bound) (le-leb lot n h.least) (le-leb n bound h.most)) (eq-eqb (n % lot) 0 h.lots)
 
-pub lawful_from : (row : List ℕ) → All (Lots most_shares) row → all_lawful row ≡ true
+pub lawful_from : (row : List ℕ) → AllByRecursion (Lots most_shares) row → all_lawful row ≡ true
 lawful_from [] h = refl
 lawful_from (a ∷ rest) h = and_from (whole_lots most_shares a) (all_lawful rest) (lots_from most_shares a h.0) (lawful_from rest h.1)
 
@@ -67,7 +67,7 @@ Whole a = a % lot ≡ 0
 abbrev pub Part : ℕ → ℕ → Type 0
 Part g a = (g % lot ≡ 0) × (g ≤ a)
 
-pub wholes : (row : List ℕ) → All (Lots most_shares) row → All Whole row
+pub wholes : (row : List ℕ) → AllByRecursion (Lots most_shares) row → AllByRecursion Whole row
 wholes [] h = tt
 wholes (a ∷ rest) h = (h.0.lots, wholes rest h.1)
 
@@ -77,7 +77,7 @@ parts_within [] (a ∷ row) h = absurd h
 parts_within (g ∷ gs) [] h = absurd h
 parts_within (g ∷ gs) (a ∷ row) h = (h.0.1, parts_within gs row h.1)
 
-parts_lots : (gs row : List ℕ) → AllZip Part gs row → All (λ gift. gift % lot ≡ 0) gs
+parts_lots : (gs row : List ℕ) → AllZip Part gs row → AllByRecursion (λ gift. gift % lot ≡ 0) gs
 parts_lots [] [] h = tt
 parts_lots [] (a ∷ row) h = absurd h
 parts_lots (g ∷ gs) [] h = absurd h
@@ -94,8 +94,8 @@ zeros_parts (a ∷ rest) = ((refl, omega arith), zeros_parts rest)
 -- what is left to show of a way to share out
 pub record Keeps (share : List ℕ → ℕ → List ℕ) : Type 0 where
   pub size : (row : List ℕ) (q : ℕ) → length (share row q) ≡ length row
-  pub parts : (row : List ℕ) (q : ℕ) → All Whole row → Whole q → AllZip Part (share row q) row
-  pub whole : (row : List ℕ) (q : ℕ) → All Whole row → Whole q → q ≤ total row → total (share row q) ≡ q
+  pub parts : (row : List ℕ) (q : ℕ) → AllByRecursion Whole row → Whole q → AllZip Part (share row q) row
+  pub whole : (row : List ℕ) (q : ℕ) → AllByRecursion Whole row → Whole q → q ≤ total row → total (share row q) ≡ q
 
 module _ (share : List ℕ → ℕ → List ℕ) (k : Keeps share) where
   at_size : (row : List ℕ) (q : ℕ) (b : Bool) → length (cond b (share row q) (zeros row)) ≡ length row
@@ -125,7 +125,7 @@ order_size : (row : List ℕ) (q : ℕ) → length (in_row_order row q) ≡ leng
 order_size [] q = refl
 order_size (a ∷ rest) q = ap suc (order_size rest (q - min a q))
 
-order_parts : (row : List ℕ) (q : ℕ) → All Whole row → Whole q → AllZip Part (in_row_order row q) row
+order_parts : (row : List ℕ) (q : ℕ) → AllByRecursion Whole row → Whole q → AllZip Part (in_row_order row q) row
 order_parts [] q h e = tt
 order_parts (a ∷ rest) q h e = let w : a % lot ≡ 0 = h.0 in ((omega arith, omega arith), order_parts rest (q - min a q) h.1 (omega arith))
 
@@ -141,7 +141,7 @@ pub round_size : (row : List ℕ) (q : ℕ) → length (round row q) ≡ length 
 round_size [] q = refl
 round_size (a ∷ rest) q = ap suc (round_size rest (q - min lot (min a q)))
 
-round_parts : (row : List ℕ) (q : ℕ) → All Whole row → Whole q → AllZip Part (round row q) row
+round_parts : (row : List ℕ) (q : ℕ) → AllByRecursion Whole row → Whole q → AllZip Part (round row q) row
 round_parts [] q h e = tt
 round_parts (a ∷ rest) q h e =
     let w : a % lot ≡ 0 = h.0 in ((omega arith, omega arith), round_parts rest (q - min lot (min a q)) h.1 (omega arith))
@@ -151,7 +151,7 @@ pub round_most : (row : List ℕ) (q : ℕ) → total (round row q) ≤ q
 round_most [] q = omega arith
 round_most (a ∷ rest) q = omega (arith, round_most rest (q - min lot (min a q)))
 
-round_least : (row : List ℕ) (q : ℕ) → All Whole row → Whole q → 0 < q → q ≤ total row → lot ≤ total (round row q)
+round_least : (row : List ℕ) (q : ℕ) → AllByRecursion Whole row → Whole q → 0 < q → q ≤ total row → lot ≤ total (round row q)
 round_least [] q h e l m = absurd (omega arith)
 round_least (a ∷ rest) q h e l m = go a h.0 m (λ n. round_least rest q h.1 e l n)
   where
@@ -167,7 +167,7 @@ point_size f (x ∷ xs) [] = refl
 point_size f (x ∷ xs) (y ∷ ys) = ap suc (point_size f xs ys)
 
 -- what a round leaves open
-open_whole : (row gs : List ℕ) → AllZip Part gs row → All Whole row → All Whole (pointwise ◌-◌ row gs)
+open_whole : (row gs : List ℕ) → AllZip Part gs row → AllByRecursion Whole row → AllByRecursion Whole (pointwise ◌-◌ row gs)
 open_whole [] gs z h = tt
 open_whole (a ∷ row) [] z h = absurd z
 open_whole (a ∷ row) (g ∷ gs) z h = (omega (arith, h.0, z.0.0, z.0.1), open_whole row gs z.1 h.1)
@@ -208,7 +208,7 @@ pub rounds_size : (k : ℕ) (row : List ℕ) (q : ℕ) → length (rounds k row 
 rounds_size zero row q = zeros_size row
 rounds_size (suc k) row q = point_size ◌+◌ (round row q) _ ∙ round_size row q
 
-rounds_parts : (k : ℕ) (row : List ℕ) (q : ℕ) → All Whole row → Whole q → AllZip Part (rounds k row q) row
+rounds_parts : (k : ℕ) (row : List ℕ) (q : ℕ) → AllByRecursion Whole row → Whole q → AllZip Part (rounds k row q) row
 rounds_parts zero row q h e = zeros_parts row
 rounds_parts (suc k) row q h e =
     let g : List ℕ = round row q in
@@ -216,20 +216,20 @@ rounds_parts (suc k) row q h e =
     both_parts row g _ z (rounds_parts k (pointwise ◌-◌ row g) (q - total g) (open_whole row g z h) (omega (arith, parts_total row g z, round_most row q)))
 
 -- enough rounds spend the quantity
-rounds_whole : (k : ℕ) (row : List ℕ) (q : ℕ) → All Whole row → Whole q → q ≤ total row → q ≤ lot * k → total (rounds k row q) ≡ q
+rounds_whole : (k : ℕ) (row : List ℕ) (q : ℕ) → AllByRecursion Whole row → Whole q → q ≤ total row → q ≤ lot * k → total (rounds k row q) ≡ q
 rounds_whole zero row q h e m l = omega (arith, zeros_total row)
 rounds_whole (suc k) row q h e m l =
     let g : List ℕ = round row q in
     let z : AllZip Part g row = round_parts row q h e in
     let n : total g ≤ q = round_most row q in
     let w : total g % lot ≡ 0 = parts_total row g z in
-    let h' : All Whole (pointwise ◌-◌ row g) = open_whole row g z h in
+    let h' : AllByRecursion Whole (pointwise ◌-◌ row g) = open_whole row g z h in
     let e' : (q - total g) % lot ≡ 0 = omega arith in
     let least : q - total g ≤ lot * k = go row q h e m l in
     both_total row g _ z (rounds_parts k (pointwise ◌-◌ row g) (q - total g) h' e')
     ∙ omega (arith, n, rounds_whole k (pointwise ◌-◌ row g) (q - total g) h' e' (omega (arith, open_total row g z)) least)
   where
-    go : (row : List ℕ) (q : ℕ) → All Whole row → Whole q → q ≤ total row → q ≤ lot * suc k → q - total (round row q) ≤ lot * k
+    go : (row : List ℕ) (q : ℕ) → AllByRecursion Whole row → Whole q → q ≤ total row → q ≤ lot * suc k → q - total (round row q) ≤ lot * k
     go row zero h e m l = omega arith
     go row (suc q) h e m l = omega (arith, round_least row (suc q) h e (omega arith) m)
 

@@ -1,6 +1,6 @@
 -- Rows of open shares, and what a share-out rule owes. Assumes nothing.
 use Rattle.std.specs.Prelude.{◌≡◌, ℕ, ◌+◌, ◌%◌, ◌≤◌, Bool, true, false, cond, ◌&&◌, List, [], ◌∷◌, length, ◌==◌, nat_le}
-use Rattle.std.specs.List.{AllZip, AllByRecursion as All}
+use Rattle.std.specs.List.{AllZip, AllByRecursion}
 
 -- shares are traded in lots
 abbrev pub lot : ℕ
@@ -51,6 +51,6 @@ pub record LawfulRule (gifts : List ℕ → ℕ → List ℕ) : Type 0 where
   -- no gift is more than its entry
   pub within : (row : List ℕ) (q : ℕ) → AllZip (λ gift entry. gift ≤ entry) (gifts row q) row
   -- each gift is whole lots
-  pub lots : (row : List ℕ) (q : ℕ) → All (λ gift. gift % lot ≡ 0) (gifts row q)
+  pub lots : (row : List ℕ) (q : ℕ) → AllByRecursion (λ gift. gift % lot ≡ 0) (gifts row q)
   -- for any other row or quantity every gift is 0
   pub other : (row : List ℕ) (q : ℕ) → shareable row q ≡ false → gifts row q ≡ zeros row

@@ -1,6 +1,6 @@
 -- Time priority and rotation. Assumes nothing.
 use Rattle.std.specs.Prelude.{◌≡◌, ℕ, zero, suc, ◌+◌, ◌-◌, ◌/◌, ◌%◌, ◌<◌, ◌≤◌, min, List, [], ◌∷◌, length, slice_index}
-use Rattle.std.specs.List.{AllZip, AllByRecursion as All}
+use Rattle.std.specs.List.{AllZip, AllByRecursion}
 use Rattle.sharing.specs.Shares.{lot, total, zeros, guarded}
 
 -- each entry in row order gets as much as is left
@@ -52,7 +52,7 @@ pub record Gives (row : List ℕ) (q : ℕ) (given : List ℕ) : Type 0 where
   pub size : length given ≡ length row
   pub whole : total given ≡ q
   pub within : AllZip (λ gift entry. gift ≤ entry) given row
-  pub lots : All (λ gift. gift % lot ≡ 0) given
+  pub lots : AllByRecursion (λ gift. gift % lot ≡ 0) given
 
 -- gifts that keep such a law, and the only ones that do
 pub record Alone (law : List ℕ → List ℕ → Type 0) (row : List ℕ) (q : ℕ) (given : List ℕ) : Type 0 where

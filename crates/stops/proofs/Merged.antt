@@ -1,6 +1,6 @@
 -- One stop more or less in two tables, and what that makes of the list by number.
 use Rattle.std.proofs.Common.{◌≡◌, ℕ, zero, suc, ◌<◌, ◌≤◌, Bool, true, false, cond, not, ◌&&◌, eqb, ltb, List, [], ◌∷◌, ◌++◌, map, take, drop, Some, None, Option, sym, refl, ap, ◌∙◌, subst, ⊎_elim, append_assoc, arith, take-append-drop, MatchOption}
-use Rattle.std.specs.List.{insert, remove, AllByRecursion as All, list_all, slice_get}
+use Rattle.std.specs.List.{insert, remove, AllByRecursion, list_all, slice_get}
 use Rattle.std.proofs.ByRecursion.{All-weaker}
 use Rattle.std.proofs.lemmas.List.{map-append}
 use Rattle.std.proofs.lemmas.Bool.{cases_lt, and_parts, and_from, lt-ltb, le-ltb, ltb-true, ltb-false, eqb-false, ne_eqb, not-true}
@@ -12,11 +12,11 @@ use Rattle.stops.specs.Seats.{Leads}
 use Rattle.stops.proofs.Firsts.{untaken}
 
 -- tests of lists ------------------------------------------------------------------------------------------------------------
-pub pass_all : {X : Type 0} (p : X → Bool) (P : X → Type 0) → ((x : X) → p x ≡ true → P x) → (xs : List X) → list_all p xs ≡ true → All P xs
+pub pass_all : {X : Type 0} (p : X → Bool) (P : X → Type 0) → ((x : X) → p x ≡ true → P x) → (xs : List X) → list_all p xs ≡ true → AllByRecursion P xs
 pass_all p P k [] e = tt
 pass_all p P k (x ∷ xs) e = let h = and_parts (p x) (list_all p xs) e in (k x h.0, pass_all p P k xs h.1)
 
-pub all_passes : {X : Type 0} (p : X → Bool) (P : X → Type 0) → ((x : X) → P x → p x ≡ true) → (xs : List X) → All P xs → list_all p xs ≡ true
+pub all_passes : {X : Type 0} (p : X → Bool) (P : X → Type 0) → ((x : X) → P x → p x ≡ true) → (xs : List X) → AllByRecursion P xs → list_all p xs ≡ true
 all_passes p P k [] h = refl
 all_passes p P k (x ∷ xs) h = and_from (p x) (list_all p xs) (k x h.0) (all_passes p P k xs h.1)
 
@@ -37,7 +37,7 @@ Away s u = s.number ≡ u.number → ⊥
 
 abbrev pub Apart : List Stop → Type 0
 Apart [] = Unit {0}
-Apart (s ∷ ss) = All (Away s) ss × Apart ss
+Apart (s ∷ ss) = AllByRecursion (Away s) ss × Apart ss
 
 pub apart_of : (ss : List Stop) → apart ss ≡ true → Apart ss
 apart_of [] e = tt
@@ -51,35 +51,35 @@ apart_test (s ∷ ss) h =
     and_from (list_all (λ u. not (eqb s.number u.number)) ss) (apart ss) (all_passes (λ u. not (eqb s.number u.number)) (Away s) (λ u q. ap not (ne_eqb s.number u.number q)) ss h.0) (apart_test ss h.1)
 
 -- one more in the middle ----------------------------------------------------------------------------------------------------
-all_out : (P : Stop → Type 0) (xs ys : List Stop) (s : Stop) → All P (xs ++ s ∷ ys) → P s × All P (xs ++ ys)
+all_out : (P : Stop → Type 0) (xs ys : List Stop) (s : Stop) → AllByRecursion P (xs ++ s ∷ ys) → P s × AllByRecursion P (xs ++ ys)
 all_out P [] ys s h = h
 all_out P (x ∷ xs) ys s h = let r = all_out P xs ys s h.1 in (r.0, (h.0, r.1))
 
-all_in : (P : Stop → Type 0) (xs ys : List Stop) (s : Stop) → P s → All P (xs ++ ys) → All P (xs ++ s ∷ ys)
+all_in : (P : Stop → Type 0) (xs ys : List Stop) (s : Stop) → P s → AllByRecursion P (xs ++ ys) → AllByRecursion P (xs ++ s ∷ ys)
 all_in P [] ys s k h = (k, h)
 all_in P (x ∷ xs) ys s k h = (h.0, all_in P xs ys s k h.1)
 
-apart_out : (xs ys : List Stop) (s : Stop) → Apart (xs ++ s ∷ ys) → All (Away s) (xs ++ ys) × Apart (xs ++ ys)
+apart_out : (xs ys : List Stop) (s : Stop) → Apart (xs ++ s ∷ ys) → AllByRecursion (Away s) (xs ++ ys) × Apart (xs ++ ys)
 apart_out [] ys s h = h
 apart_out (x ∷ xs) ys s h =
     let a = all_out (Away x) xs ys s h.0 in
     let r = apart_out xs ys s h.1 in
     (((λ e. a.0 (sym e)), r.0), (a.1, r.1))
 
-apart_in : (xs ys : List Stop) (s : Stop) → All (Away s) (xs ++ ys) → Apart (xs ++ ys) → Apart (xs ++ s ∷ ys)
+apart_in : (xs ys : List Stop) (s : Stop) → AllByRecursion (Away s) (xs ++ ys) → Apart (xs ++ ys) → Apart (xs ++ s ∷ ys)
 apart_in [] ys s k h = (k, h)
 apart_in (x ∷ xs) ys s k h = (all_in (Away x) xs ys s (λ e. k.0 (sym e)) h.0, apart_in xs ys s k.1 h.1)
 
 -- filing by number ----------------------------------------------------------------------------------------------------------
-all_filed : (P : Stop → Type 0) (s : Stop) (ss : List Stop) → P s → All P ss → All P (filed lower_number s ss)
+all_filed : (P : Stop → Type 0) (s : Stop) (ss : List Stop) → P s → AllByRecursion P ss → AllByRecursion P (filed lower_number s ss)
 all_filed P s [] k h = (k, tt)
 all_filed P s (u ∷ us) k h = go (lower_number s u) (all_filed P s us k h.1)
   where
-    go : (b : Bool) → All P (filed lower_number s us) → All P (cond b (s ∷ u ∷ us) (u ∷ filed lower_number s us))
+    go : (b : Bool) → AllByRecursion P (filed lower_number s us) → AllByRecursion P (cond b (s ∷ u ∷ us) (u ∷ filed lower_number s us))
     go true ih = (k, h)
     go false ih = (h.0, ih)
 
-pub all_by_number : (P : Stop → Type 0) (ss : List Stop) → All P ss → All P (by_number ss)
+pub all_by_number : (P : Stop → Type 0) (ss : List Stop) → AllByRecursion P ss → AllByRecursion P (by_number ss)
 all_by_number P [] h = tt
 all_by_number P (s ∷ ss) h = all_filed P s (by_number ss) h.0 (all_by_number P ss h.1)
 
@@ -119,19 +119,19 @@ swap_away a b us ne =
     (λ (l : b.number ≤ a.number). sym (swap b a us (let k : (a.number ≡ b.number) → ⊥ = ne in omega arith)))
     (cases_lt a.number b.number)
 
-by_number_in : (xs ys : List Stop) (s : Stop) → All (Away s) (xs ++ ys) → by_number (xs ++ s ∷ ys) ≡ filed lower_number s (by_number (xs ++ ys))
+by_number_in : (xs ys : List Stop) (s : Stop) → AllByRecursion (Away s) (xs ++ ys) → by_number (xs ++ s ∷ ys) ≡ filed lower_number s (by_number (xs ++ ys))
 by_number_in [] ys s h = refl
 by_number_in (x ∷ xs) ys s h = ap (filed lower_number x) (by_number_in xs ys s h.1) ∙ sym (swap_away s x (by_number (xs ++ ys)) h.0)
 
 -- behind all
-filed_last : (s : Stop) (ss : List Stop) → All (λ u. u.number < s.number) ss → filed lower_number s ss ≡ ss ++ s ∷ []
+filed_last : (s : Stop) (ss : List Stop) → AllByRecursion (λ u. u.number < s.number) ss → filed lower_number s ss ≡ ss ++ s ∷ []
 filed_last s [] h = refl
 filed_last s (u ∷ us) h =
     ap (λ (b : Bool). cond b (s ∷ u ∷ us) (u ∷ filed lower_number s us)) (le-ltb s.number u.number (omega (arith, h.0)))
     ∙ ap (λ (z : List Stop). u ∷ z) (filed_last s us h.1)
 
 -- the first that passes is the one just filed, where it passes and is lower than all others that do
-taken_out : (t : Stop → Bool) (s : Stop) (ss : List Stop) → t s ≡ true → All (λ u. t u ≡ true → s.number < u.number) ss → (first_by t (filed lower_number s ss) ≡ Some s) × (without_by t (filed lower_number s ss) ≡ ss)
+taken_out : (t : Stop → Bool) (s : Stop) (ss : List Stop) → t s ≡ true → AllByRecursion (λ u. t u ≡ true → s.number < u.number) ss → (first_by t (filed lower_number s ss) ≡ Some s) × (without_by t (filed lower_number s ss) ≡ ss)
 taken_out t s [] e h = (ap (λ (b : Bool). cond b (Some s) None) e, ap (λ (b : Bool). cond b [] (s ∷ [])) e)
 taken_out t s (u ∷ us) e h = go (lower_number s u) refl (t u) refl (taken_out t s us e h.1)
   where
@@ -144,7 +144,7 @@ taken_out t s (u ∷ us) e h = go (lower_number s u) refl (t u) refl (taken_out 
       ap (λ (b : Bool). cond b (filed lower_number s us) (u ∷ without_by t (filed lower_number s us))) j ∙ ap (λ (z : List Stop). u ∷ z) ih.1,
     )
 
-none_first : (t : Stop → Bool) (ss : List Stop) → All (λ u. t u ≡ false) ss → first_by t ss ≡ None
+none_first : (t : Stop → Bool) (ss : List Stop) → AllByRecursion (λ u. t u ≡ false) ss → first_by t ss ≡ None
 none_first t [] h = refl
 none_first t (u ∷ us) h = ap (λ (b : Bool). cond b (Some u) (first_by t us)) h.0 ∙ none_first t us h.1
 
@@ -186,29 +186,29 @@ beside_removed f (y ∷ ys) (suc i) x e =
     record { front = f y ∷ b.front; back = b.back; more_is = ap (λ (l : List Stop). f y ∷ l) b.more_is; less_is = ap (λ (l : List Stop). f y ∷ l) b.less_is }
 
 module _ {s : Stop} {ms ls : List Stop} (b : Beside s ms ls) where
-  pub beside_all : (P : Stop → Type 0) → All P ms → P s × All P ls
+  pub beside_all : (P : Stop → Type 0) → AllByRecursion P ms → P s × AllByRecursion P ls
   beside_all P h =
-      let r = all_out P b.front b.back s (subst (All P) b.more_is h) in
-      (r.0, subst (All P) (sym b.less_is) r.1)
+      let r = all_out P b.front b.back s (subst (AllByRecursion P) b.more_is h) in
+      (r.0, subst (AllByRecursion P) (sym b.less_is) r.1)
 
-  pub beside_out : Apart ms → All (Away s) ls × Apart ls
+  pub beside_out : Apart ms → AllByRecursion (Away s) ls × Apart ls
   beside_out h =
       let r = apart_out b.front b.back s (subst Apart b.more_is h) in
-      (subst (All (Away s)) (sym b.less_is) r.0, subst Apart (sym b.less_is) r.1)
+      (subst (AllByRecursion (Away s)) (sym b.less_is) r.0, subst Apart (sym b.less_is) r.1)
 
-  pub beside_in : All (Away s) ls → Apart ls → Apart ms
-  beside_in k h = subst Apart (sym b.more_is) (apart_in b.front b.back s (subst (All (Away s)) b.less_is k) (subst Apart b.less_is h))
+  pub beside_in : AllByRecursion (Away s) ls → Apart ls → Apart ms
+  beside_in k h = subst Apart (sym b.more_is) (apart_in b.front b.back s (subst (AllByRecursion (Away s)) b.less_is k) (subst Apart b.less_is h))
 
-  pub beside_by_number : All (Away s) ls → by_number ms ≡ filed lower_number s (by_number ls)
+  pub beside_by_number : AllByRecursion (Away s) ls → by_number ms ≡ filed lower_number s (by_number ls)
   beside_by_number k =
-      ap by_number b.more_is ∙ by_number_in b.front b.back s (subst (All (Away s)) b.less_is k) ∙ ap (λ (l : List Stop). filed lower_number s (by_number l)) (sym b.less_is)
+      ap by_number b.more_is ∙ by_number_in b.front b.back s (subst (AllByRecursion (Away s)) b.less_is k) ∙ ap (λ (l : List Stop). filed lower_number s (by_number l)) (sym b.less_is)
 
   -- a stop above all is filed last
-  pub joined_last : All (λ u. u.number < s.number) ls → by_number ms ≡ by_number ls ++ s ∷ []
+  pub joined_last : AllByRecursion (λ u. u.number < s.number) ls → by_number ms ≡ by_number ls ++ s ∷ []
   joined_last h =
       beside_by_number (All-weaker (λ u. u.number < s.number) (Away s) (λ u k e. omega arith) ls h) ∙ filed_last s (by_number ls) (all_by_number (λ u. u.number < s.number) ls h)
 
-  pub joined_apart : All (λ u. u.number < s.number) ls → Apart ls → Apart ms
+  pub joined_apart : AllByRecursion (λ u. u.number < s.number) ls → Apart ls → Apart ms
   joined_apart h k = beside_in (All-weaker (λ u. u.number < s.number) (Away s) (λ u l e. omega arith) ls h) k
 
 -- what leads is the first by number, and the list goes on without it
@@ -224,12 +224,12 @@ led t (Some s) ms ls a h b =
     let k = taken_out t s (by_number ls) h.0 (all_by_number (λ u. t u ≡ true → s.number < u.number) ls rest) in
     (sym (ap (first_by t) e ∙ k.0), sym (ap (without_by t) e ∙ k.1))
   where
-    both_all : (us : List Stop) → All (Away s) us → All (λ u. t u ≡ true → s.number ≤ u.number) us → All (λ u. t u ≡ true → s.number < u.number) us
+    both_all : (us : List Stop) → AllByRecursion (Away s) us → AllByRecursion (λ u. t u ≡ true → s.number ≤ u.number) us → AllByRecursion (λ u. t u ≡ true → s.number < u.number) us
     both_all [] p q = tt
     both_all (u ∷ us) p q = ((λ y. let l = q.0 y in let ne = p.0 in omega arith), both_all us p.1 q.1)
 
 -- numbers above all ---------------------------------------------------------------------------------------------------------
-pub above_all_lem : (n : ℕ) (ss : List Stop) → above_all n ss ≡ true → All (λ u. u.number < n) ss
+pub above_all_lem : (n : ℕ) (ss : List Stop) → above_all n ss ≡ true → AllByRecursion (λ u. u.number < n) ss
 above_all_lem n [] e = tt
 above_all_lem n (u ∷ us) e = let h = and_parts (ltb u.number n) (above_all n us) e in (ltb-true u.number n h.0, above_all_lem n us h.1)
 

@@ -1,13 +1,13 @@
 -- Ascending numbers, the lowest number, and the lists that the operations reach from an emptied file.
 use Rattle.std.specs.Prelude.{ℕ, ◌<◌, Bool, cond, List, [], ◌∷◌, Some, None, Option, nat_le}
-use Rattle.std.specs.List.{AllByRecursion as All}
+use Rattle.std.specs.List.{AllByRecursion}
 use Rattle.market.specs.declared.words.Stop.{Stop}
 use Rattle.stops.specs.Stops.{elects, numbered, without_by, adding, after_adding}
 
 -- the numbers ascend
 abbrev pub Ascends : List Stop → Type 0
 Ascends [] = Unit {0}
-Ascends (s ∷ ss) = All (λ u. s.number < u.number) ss × Ascends ss
+Ascends (s ∷ ss) = AllByRecursion (λ u. s.number < u.number) ss × Ascends ss
 
 -- of those that pass a test, the one with the lowest number
 abbrev pub lower : Stop → Option Stop → Option Stop

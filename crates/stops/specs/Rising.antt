@@ -1,7 +1,7 @@
 -- The operations keep the numbers ascending, and then the first is the lowest.
 use Rattle.std.specs.Prelude.{◌≡◌, ℕ, ◌<◌, Bool, true, false, cond, List, [], ◌∷◌, ◌++◌, length, Some, Ok, Err, filter, ◌==◌, nat_lt, refl}
 use Rattle.std.proofs.Common.{ap, ◌∙◌, arith}
-use Rattle.std.specs.List.{AllByRecursion as All}
+use Rattle.std.specs.List.{AllByRecursion}
 use Rattle.std.proofs.ByRecursion.{All-push, all_kept_by}
 use Rattle.std.proofs.lemmas.Bool.{and_parts, ltb-true, le-leb}
 use Rattle.market.specs.declared.words.Stop.{Stop}
@@ -9,11 +9,11 @@ use Rattle.stops.specs.declared.stop_file.NotAdded.TheVariants.{NotAbove, Full}
 use Rattle.stops.specs.Stops.{elects, numbered, first_by, without_by, above_all, adding, after_adding}
 use Rattle.stops.specs.Laws.{Ascends, lower, lowest_by, Operation, clearing, entering, removing, taking, after, reached}
 
-pub all_without : (P : Stop → Type 0) (t : Stop → Bool) (ss : List Stop) → All P ss → All P (without_by t ss)
+pub all_without : (P : Stop → Type 0) (t : Stop → Bool) (ss : List Stop) → AllByRecursion P ss → AllByRecursion P (without_by t ss)
 all_without P t [] h = tt
 all_without P t (x ∷ xs) h = go (t x) (all_without P t xs h.1)
   where
-    go : (b : Bool) → All P (without_by t xs) → All P (cond b xs (x ∷ without_by t xs))
+    go : (b : Bool) → AllByRecursion P (without_by t xs) → AllByRecursion P (cond b xs (x ∷ without_by t xs))
     go true ih = h.1
     go false ih = (h.0, ih)
 
@@ -50,7 +50,7 @@ ascends_reached k [] = tt
 ascends_reached k (o ∷ os) = ascends_after k o (reached k os) (ascends_reached k os)
 
 -- no stop behind x is lower than x
-lower_all : (t : Stop → Bool) (x : Stop) (xs : List Stop) → All (λ u. x.number < u.number) xs → lower x (first_by t xs) ≡ Some x
+lower_all : (t : Stop → Bool) (x : Stop) (xs : List Stop) → AllByRecursion (λ u. x.number < u.number) xs → lower x (first_by t xs) ≡ Some x
 lower_all t x [] h = refl
 lower_all t x (y ∷ ys) h = go (t y) (lower_all t x ys h.1)
   where

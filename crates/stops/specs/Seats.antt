@@ -1,6 +1,6 @@
 -- Where a stop stands in the two tables.
 use Rattle.std.specs.Prelude.{◌≡◌, ℕ, ◌≤◌, Bool, true, false, cond, List, [], map, take, Some, None, Option, nat_lt}
-use Rattle.std.specs.List.{prefix_len, AllByRecursion as All, slice_get}
+use Rattle.std.specs.List.{prefix_len, AllByRecursion, slice_get}
 use Rattle.market.specs.declared.words.Stop.{Stop}
 use Rattle.stops.specs.declared.ranks.BuyStop.{BuyStop}
 use Rattle.stops.specs.declared.ranks.SellStop.{SellStop}
@@ -20,7 +20,7 @@ pub record Least (ss : List Stop) (i n : ℕ) : Type 0 where
   pub which : Stop
   pub there : slice_get ss i ≡ Some which
   pub called : which.number ≡ n
-  pub least : All (λ u. n ≤ u.number) ss
+  pub least : AllByRecursion (λ u. n ≤ u.number) ss
 
 abbrev pub LeastRow : List Stop → Option Found → Type 0
 LeastRow ss None = ss ≡ []
@@ -40,5 +40,5 @@ lower_seat (Some b) (Some s) = cond (nat_lt b.number s.number) (Some (Buys b.pla
 
 -- a stop passes, and none that passes is lower; or none passes
 abbrev pub Leads : (Stop → Bool) → Option Stop → List Stop → Type 0
-Leads t None ss = All (λ u. t u ≡ false) ss
-Leads t (Some s) ss = (t s ≡ true) × All (λ u. t u ≡ true → s.number ≤ u.number) ss
+Leads t None ss = AllByRecursion (λ u. t u ≡ false) ss
+Leads t (Some s) ss = (t s ≡ true) × AllByRecursion (λ u. t u ≡ true → s.number ≤ u.number) ss

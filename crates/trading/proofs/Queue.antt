@@ -1,7 +1,7 @@
 -- The numbers in line, as a list.
 use Rattle.std.proofs.Common.{◌≡◌, ℕ, zero, suc, ◌+◌, ◌-◌, ◌<◌, ◌≤◌, Bool, true, false, cond, not, eqb, List, [], ◌∷◌, ◌++◌, length, get_or, take, drop, set, Some, None, filter, sym, refl, ap, ◌∙◌, subst, ⊎_elim, add-one, arith}
 use borrow.Rule.Slice.PartMut.{put_mid}
-use Rattle.std.specs.List.{AllByRecursion as All}
+use Rattle.std.specs.List.{AllByRecursion}
 use Rattle.std.proofs.lemmas.Bool.{eq-eqb, ne_eqb, eqb-false, cases_lt}
 use Rattle.std.proofs.lemmas.List.{length-take, length-take-le, take_more_set, take-append-le, drop-append-le, drop_more, drop_all, drop-take, drop_at, get_or-take}
 use Rattle.std.proofs.lemmas.Slice.{between_is}
@@ -18,23 +18,23 @@ those_kept p (n ∷ ns) = go (p n) (those_kept p ns)
     go false ih = ih
 
 -- those who stay ---------------------------------------------------------------------------------------------------------
-pub without_none : (n : ℕ) (ms : List ℕ) → All (λ m. eqb m n ≡ false) ms → without n ms ≡ ms
+pub without_none : (n : ℕ) (ms : List ℕ) → AllByRecursion (λ m. eqb m n ≡ false) ms → without n ms ≡ ms
 without_none n [] a = refl
 without_none n (m ∷ ms) a = ap (λ b. kept (not b) m (without n ms)) a.0 ∙ ap (λ l. m ∷ l) (without_none n ms a.1)
 
-pub all_without : (n : ℕ) (Q : ℕ → Type 0) (ms : List ℕ) → All (λ m. (m ≡ n → ⊥) → Q m) ms → All Q (without n ms)
+pub all_without : (n : ℕ) (Q : ℕ → Type 0) (ms : List ℕ) → AllByRecursion (λ m. (m ≡ n → ⊥) → Q m) ms → AllByRecursion Q (without n ms)
 all_without n Q [] a = tt
 all_without n Q (m ∷ ms) a = go (eqb m n) refl (all_without n Q ms a.1)
   where
-    go : (b : Bool) → eqb m n ≡ b → All Q (without n ms) → All Q (kept (not b) m (without n ms))
+    go : (b : Bool) → eqb m n ≡ b → AllByRecursion Q (without n ms) → AllByRecursion Q (kept (not b) m (without n ms))
     go true e ih = ih
     go false e ih = (a.0 (eqb-false m n e), ih)
 
-still : (n : ℕ) (Q : ℕ → Type 0) (ms : List ℕ) → All Q ms → All Q (without n ms)
+still : (n : ℕ) (Q : ℕ → Type 0) (ms : List ℕ) → AllByRecursion Q ms → AllByRecursion Q (without n ms)
 still n Q [] a = tt
 still n Q (m ∷ ms) a = go (eqb m n) (still n Q ms a.1)
   where
-    go : (b : Bool) → All Q (without n ms) → All Q (kept (not b) m (without n ms))
+    go : (b : Bool) → AllByRecursion Q (without n ms) → AllByRecursion Q (kept (not b) m (without n ms))
     go true ih = ih
     go false ih = (a.0, ih)
 
@@ -47,11 +47,11 @@ once_without n (m ∷ ms) o = go (eqb m n) (once_without n ms o.1)
     go false ih = (still n (λ k. eqb k m ≡ false) ms o.0, ih)
 
 -- one more
-pub once_push : (n : ℕ) (ms : List ℕ) → All (λ m. m ≡ n → ⊥) ms → Once ms → Once (ms ++ n ∷ [])
+pub once_push : (n : ℕ) (ms : List ℕ) → AllByRecursion (λ m. m ≡ n → ⊥) ms → Once ms → Once (ms ++ n ∷ [])
 once_push n [] a o = (tt, tt)
 once_push n (m ∷ ms) a o = (last ms o.0, once_push n ms a.1 o.1)
   where
-    last : (ks : List ℕ) → All (λ k. eqb k m ≡ false) ks → All (λ k. eqb k m ≡ false) (ks ++ n ∷ [])
+    last : (ks : List ℕ) → AllByRecursion (λ k. eqb k m ≡ false) ks → AllByRecursion (λ k. eqb k m ≡ false) (ks ++ n ∷ [])
     last [] h = (ne_eqb n m (λ e. a.0 (sym e)), tt)
     last (k ∷ ks) h = (h.0, last ks h.1)
 
@@ -62,7 +62,7 @@ first_gone n zero [] e o = refl
 first_gone n (suc i) [] e o = refl
 first_gone n zero (m ∷ ms) e o =
     let is : m ≡ n = cc in
-    sym (ap (λ b. kept (not b) m (without n ms)) (eq-eqb m n is) ∙ without_none n ms (subst (λ k. All (λ j. eqb j k ≡ false) ms) is o.0))
+    sym (ap (λ b. kept (not b) m (without n ms)) (eq-eqb m n is) ∙ without_none n ms (subst (λ k. AllByRecursion (λ j. eqb j k ≡ false) ms) is o.0))
 first_gone n (suc i) (m ∷ ms) e o = first_gone n i ms e o
 
 pub gone_first : (n i j : ℕ) (ms : List ℕ) → Some n ≡ first_of (drop i (take j ms)) → Once (drop i (take j ms)) → drop (i + 1) (take j ms) ≡ without n (drop i (take j ms))

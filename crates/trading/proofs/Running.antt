@@ -2,7 +2,7 @@
 use Rattle.std.proofs.Common.{◌≡◌, ℕ, zero, suc, ◌+◌, ◌-◌, ◌*◌, ◌<◌, ◌≤◌, Bool, true, false, cond, not, ◌&&◌, eqb, ◌⊎◌, List, [], ◌∷◌, ◌++◌, length, Some, None, Option, sym, refl, ap, ◌∙◌, subst, inl, inr, ⊎_elim, arith}
 use mathlib.Core.Logic.{∥∥₁_elim}
 use base.Stored.{Coded-set, coded_bool}
-use Rattle.std.specs.List.{AllByRecursion as All}
+use Rattle.std.specs.List.{AllByRecursion}
 use Rattle.std.proofs.lemmas.Bool.{false≢true}
 use Rattle.market.specs.declared.words.Side.{Side}
 use Rattle.market.specs.declared.words.Kind.{Kind}
@@ -34,7 +34,7 @@ use Rattle.trading.specs.Boards.{orders_of, waiting_of}
 use Rattle.trading.specs.Shows.{Shows, Runner, second_price, printed, Printed}
 
 -- the first in line ------------------------------------------------------------------------------------------------------
-first_waits : (P : ℕ → Type 0) (l : List ℕ) (n : ℕ) → first_of l ≡ Some n → All P l → P n
+first_waits : (P : ℕ → Type 0) (l : List ℕ) (n : ℕ) → first_of l ≡ Some n → AllByRecursion P l → P n
 first_waits P [] n e a = absurd (let z : ◌≡◌ {A = ℕ} 0 1 = cc in omega arith)
 first_waits P (m ∷ l) n e a = let z : m ≡ n = cc in subst P z a.0
 

@@ -1,6 +1,6 @@
 -- What a board keeps: the roll, the numbers in line, and how many have joined it today. Assumes nothing.
 use Rattle.std.specs.Prelude.{◌≡◌, ℕ, ◌+◌, ◌≤◌, Bool, true, false, List, length, Some, None, Option}
-use Rattle.std.specs.List.{AllByRecursion as All}
+use Rattle.std.specs.List.{AllByRecursion}
 use Rattle.market.specs.declared.words.Place.{Place}
 use Rattle.market.specs.declared.words.Place.TheVariants.{Nowhere, Book, Line, StopFile}
 use Rattle.market.specs.declared.words.Order.{Order}
@@ -26,7 +26,7 @@ Waits os n = loose_of (look n os) ≡ true
 pub record Ruled (os : List Order) (line : List ℕ) (joined : ℕ) : Type 0 where
   pub numbered : Numbered 1 os
   pub few : length os ≤ 512
-  pub waits : All (Waits os) line
+  pub waits : AllByRecursion (Waits os) line
   pub once : Once line
   -- each order joins the line once at most, and none while it is filed: so there is always room in line
   pub room : joined + filed os ≤ length os

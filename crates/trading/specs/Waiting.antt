@@ -1,6 +1,6 @@
 -- The line of waiting orders. Assumes nothing.
 use Rattle.std.specs.Prelude.{◌≡◌, ℕ, false, List, [], ◌∷◌, take, drop, Some, None, Option, ◌==◌}
-use Rattle.std.specs.List.{AllByRecursion as All}
+use Rattle.std.specs.List.{AllByRecursion}
 use Rattle.trading.specs.declared.line.Line.{Line}
 
 -- those between the ones that have gone and the free slots
@@ -14,4 +14,4 @@ first_of (n ∷ ns) = Some n
 -- nobody is in line twice
 abbrev pub Once : List ℕ → Type 0
 Once [] = Unit {0}
-Once (n ∷ ns) = All (λ m. (m == n) ≡ false) ns × Once ns
+Once (n ∷ ns) = AllByRecursion (λ m. (m == n) ≡ false) ns × Once ns
