@@ -54,6 +54,6 @@ pub record Orderly (d : Day) : Type 0 where
   -- an order's filled shares are the sum of its fills
   pub filled : AllByRecursion (λ o. o.filled ≡ total (shares_of o.number) d.fills) d.roll
 
--- AllByRecursion this holds after every list of calls.
+-- All this holds after every list of calls.
 abbrev pub BookInOrder : Type 0
 BookInOrder = (gifts : Rule) → LawfulRule gifts → (room : ℕ) (cs : List Call) → Orderly (after_calls gifts room new_day cs)
