@@ -74,9 +74,9 @@ pub(crate) fn give_nothing(row: &mut [u32])
 
 // Shares out by whatever rule, and answers how many shares were given: all of the quantity, or none.
 pub fn share_out_counted<R: ShareOut>(rule: &R, row: &mut [u32], quantity: u32) -> u32
-    ensures gifts { row.new ≡ gifts rule.now row.old quantity }
+    ensures gifts { row.new ≡ R.gifts rule.now row.old quantity }
     ensures counted { result ≡ (if shareable row.old quantity then quantity else 0) }
-    ensures all { shareable row.old quantity ≡ true → total (gifts rule.now row.old quantity) ≡ result }
+    ensures all { shareable row.old quantity ≡ true → total (R.gifts rule.now row.old quantity) ≡ result }
 {
     let can = can_share(row, quantity);
     rule.share_out(row, quantity);

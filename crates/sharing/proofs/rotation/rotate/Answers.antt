@@ -7,5 +7,5 @@ pub returns : goal.returns
 returns c =
     let row = c.args.row.now in
     let q = c.args.quantity in
-    let is : c.last-round.new.row ≡ in_rounds row q = c.last-round.ensures ∙ c.whole-rounds-paid.ensures in
+    let is : c.last_round.new.row ≡ in_rounds row q = c.last_round.ensures ∙ c.whole_rounds-paid.ensures in
     record { gifts = is; alone = subst (Alone TakesTurns row q) (sym is) (rounds_alone row q c.requires) }

@@ -14,9 +14,9 @@ loop-unfilled-init c =
       (c.args.quantity / lot, omega (arith, s.quantity.lots), after_none (c.args.quantity / lot) c.args.quantity c.args.row.now),
       omega arith,
       refl,
-      c.entries-above-unfilled.ensures.count,
-      c.entries-above-unfilled.ensures.least,
-      omega (arith, s.entries.few, c.entries-above-unfilled.ensures.few),
+      c.entries_above-unfilled.ensures.count,
+      c.entries_above-unfilled.ensures.least,
+      omega (arith, s.entries.few, c.entries_above-unfilled.ensures.few),
     )
 
 pub cost-requires : goal.cost-requires
@@ -54,9 +54,9 @@ loop-unfilled-preserved c =
       (next.0, omega (arith, next.1), ap (λ x. after m next.0 c.args.row.now (q - x)) c.cost-left.ensures ∙ next.2),
       omega (arith, i.1, least.over, i.4),
       ap (λ x. x % lot) i.4 ∙ least.lawful.lots,
-      c.entries-above-unfilled-in-loop-unfilled.ensures.count,
-      c.entries-above-unfilled-in-loop-unfilled.ensures.least,
-      omega (arith, s.entries.few, c.entries-above-unfilled-in-loop-unfilled.ensures.few),
+      c.entries_above-unfilled-in-loop-unfilled.ensures.count,
+      c.entries_above-unfilled-in-loop-unfilled.ensures.least,
+      omega (arith, s.entries.few, c.entries_above-unfilled-in-loop-unfilled.ensures.few),
     )
 
 pub returns : goal.returns
@@ -72,4 +72,4 @@ returns c =
       | then-loop-unfilled-test+else-cost-left w ↦ omega (arith, w.if-cost-left.false, w.cost.ensures)
       | else-loop-unfilled-test w ↦ absurd (omega (arith, w.loop-unfilled-test.false))
     ] in
-    last_level c.args.row.now _ l q n m i.0.0 s.entries.each i.2 i.3 i.4 i.0.1 i.0.2 c.rounds-paid-rise.result c.rounds-paid-rise.ensures.rounds over
+    last_level c.args.row.now _ l q n m i.0.0 s.entries.each i.2 i.3 i.4 i.0.1 i.0.2 c.rounds_paid-rise.result c.rounds_paid-rise.ensures.rounds over

@@ -10,11 +10,11 @@ returns-then-not-is-whole-lots c =
 
 pub loop-entry-preserved : goal.loop-entry-preserved
 loop-entry-preserved c =
-    sym (lawful_more c.args.row.now c.loop-entry.entry-index c.loop-entry-test.true true c.if-not-is-whole-lots.ensures) ∙ c.loop-entry.invariant
+    sym (lawful_more c.args.row.now c.loop-entry.entry-index c.loop-entry-test.true true c.if-not-is_whole_lots.ensures) ∙ c.loop-entry.invariant
 
 pub returns : goal.returns
 returns c =
     let xs = c.args.row.now in
     let all : all_lawful (drop c.loop-entry.entry-index xs) ≡ true = at_drop_all all_lawful xs c.loop-entry.entry-index c.loop-entry-test.false in
     let some : 0 < length xs = search rules in
-    lawful_told xs some c.if-row-gt-MOST-ENTRIES.false (sym c.loop-entry.invariant ∙ all)
+    lawful_told xs some c.if-row-gt-MOST_ENTRIES.false (sym c.loop-entry.invariant ∙ all)
