@@ -1,5 +1,5 @@
 -- Rounds by levels: after whole rounds every entry has been given shares up to the same level. Assumes nothing.
-use Rattle.std.proofs.Common.{◌≡◌, ℕ, zero, suc, ◌+◌, ◌-◌, ◌*◌, ◌/◌, ◌%◌, ◌<◌, ◌≤◌, min, Bool, true, false, cond, not, ◌&&◌, ◌||◌, eqb, ltb, ◌⊎◌, List, [], ◌∷◌, length, sym, refl, ap, ◌∙◌, subst, ⊎_elim, mul_assoc, suc-mul, lt_of_mul-lt-mul_right, mul-le-mul_left, zero-mul, le-mul_of_pos_right, div-mul-le_self, mul_left_comm, arith}
+use Rattle.std.proofs.Common.{◌≡◌, ℕ, zero, suc, ◌+◌, ◌-◌, ◌*◌, ◌/◌, ◌%◌, ◌<◌, ◌≤◌, min, Bool, true, false, cond, not, ◌&&◌, ◌||◌, eqb, ltb, List, [], ◌∷◌, length, sym, refl, ap, ◌∙◌, subst, ⊎_elim, mul_assoc, suc-mul, lt_of_mul-lt-mul_right, mul-le-mul_left, zero-mul, le-mul_of_pos_right, div-mul-le_self, mul_left_comm, arith}
 use native.Mathlib.Nat.{div-zero, lt-div-mul-add}
 use Rattle.std.specs.List.{AllByRecursion}
 use Rattle.std.proofs.lemmas.Bool.{cases_lt, cases_eq, cases_Bool, false≢true, eqb-true, eq-eqb, or_cases, or_left, or_right}

@@ -5,8 +5,8 @@ use Rattle.sharing.proofs.Levels.{after, kinds, after_none, cost_asks, least_is,
 use Rattle.sharing.proofs.rotation.whole_rounds.Goals as goal
 use Rattle.sharing.proofs.rotation.whole_rounds.Goals.{then-loop-unfilled-test+else-cost-left, else-loop-unfilled-test}
 
-pub entries-above-unfilled-requires : goal.entries-above-unfilled-requires
-entries-above-unfilled-requires c = (shareable_parts c.args.row.now c.args.quantity c.requires).entries.few
+pub entries_above-unfilled-requires : goal.entries_above-unfilled-requires
+entries_above-unfilled-requires c = (shareable_parts c.args.row.now c.args.quantity c.requires).entries.few
 
 pub loop-unfilled-init : goal.loop-unfilled-init
 loop-unfilled-init c =

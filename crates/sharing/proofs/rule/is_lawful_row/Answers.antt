@@ -4,9 +4,9 @@ use Rattle.sharing.specs.Shares.{all_lawful}
 use Rattle.sharing.proofs.Steps.{lawful_more, not_lawful, lawful_told}
 use Rattle.sharing.proofs.rule.is_lawful_row.Goals as goal
 
-pub returns-then-not-is-whole-lots : goal.returns-then-not-is-whole-lots
-returns-then-not-is-whole-lots c =
-    not_lawful c.args.row.now (sym c.loop-entry.invariant ∙ lawful_more c.args.row.now c.loop-entry.entry-index c.loop-entry-test.true false c.if-not-is-whole-lots.ensures)
+pub returns-then-not-is_whole_lots : goal.returns-then-not-is_whole_lots
+returns-then-not-is_whole_lots c =
+    not_lawful c.args.row.now (sym c.loop-entry.invariant ∙ lawful_more c.args.row.now c.loop-entry.entry-index c.loop-entry-test.true false c.if-not-is_whole_lots.ensures)
 
 pub loop-entry-preserved : goal.loop-entry-preserved
 loop-entry-preserved c =

@@ -5,8 +5,8 @@ use Rattle.sharing.specs.Keeps.{row_parts}
 use Rattle.sharing.proofs.Steps.{total_more, total_most}
 use Rattle.sharing.proofs.rule.sum_of.Goals as goal
 
-pub overflow-add-sum : goal.overflow-add-sum
-overflow-add-sum c =
+pub overflow_add-sum : goal.overflow_add-sum
+overflow_add-sum c =
     let r = row_parts c.args.row.now c.requires in
     omega (arith, c.loop-entry.invariant, total_more c.args.row.now c.loop-entry.entry-index c.loop-entry-test.true, total_most c.args.row.now r.each, r.few)
 
