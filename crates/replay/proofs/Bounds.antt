@@ -1,5 +1,5 @@
 -- The numbers of a day stay small: what the code's arithmetic needs.
-use Rattle.std.proofs.Common.{◌≡◌, ℕ, ◌+◌, ◌-◌, ◌≤◌, Bool, true, false, cond, not, ◌&&◌, ◌||◌, eqb, leb, ◌⊎◌, List, [], ◌∷◌, ◌++◌, map, Some, None, Option, sym, refl, ap, ◌∙◌, subst, inl, inr, arith}
+use Rattle.std.proofs.Common.{◌≡◌, ℕ, ◌-◌, ◌≤◌, Bool, true, false, cond, not, ◌&&◌, ◌||◌, eqb, leb, ◌⊎◌, List, [], ◌∷◌, ◌++◌, map, Some, None, sym, refl, ap, ◌∙◌, subst, inl, inr, arith}
 use Rattle.std.proofs.lemmas.Bool.{false≢true, not-false, and_parts, and_from, eqb-true, leb-true, le-leb}
 use Rattle.std.specs.List.{AllByRecursion}
 use Rattle.market.specs.declared.words.Side.{Side}
@@ -16,7 +16,7 @@ use Rattle.market.specs.Orders.{rests_on, fill, cancel, put, is_book}
 use Rattle.market.specs.Ranges.{range_around, around, Band, bands, of_column, of_band, value_in}
 use Rattle.sharing.specs.Shares.{LawfulRule}
 use Rattle.replay.specs.Lists.{any}
-use Rattle.replay.specs.Days.{Day, Rule, Call, new_day}
+use Rattle.replay.specs.Days.{Rule, Call, new_day}
 use Rattle.replay.specs.Rolls.{fresh, price_of, is_market}
 use Rattle.replay.specs.Book.{is_at, is_better}
 use Rattle.replay.specs.Moves.{deal, after, size, trade, leave, withdraw, rest, pause, elect, is_elected, called, centre, admit, floored, resumed, set_up, to}

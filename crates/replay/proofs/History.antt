@@ -1,5 +1,5 @@
 -- What is on the tape already changes nothing: a call on a day with a history does what it does on the day without, after that history.
-use Rattle.std.proofs.Common.{◌≡◌, ℕ, zero, suc, ◌+◌, ◌-◌, Bool, true, false, List, [], ◌∷◌, ◌++◌, length, Some, None, Option, sym, refl, ap, ◌∙◌, subst}
+use Rattle.std.proofs.Common.{◌≡◌, ℕ, zero, suc, Bool, true, false, List, [], ◌∷◌, ◌++◌, length, Some, None, Option, sym, refl, ap, ◌∙◌, subst}
 use Rattle.market.specs.declared.words.Side.{Side}
 use Rattle.market.specs.declared.words.Kind.{Kind}
 use Rattle.market.specs.declared.words.Kind.TheVariants.{Limit, Market, ImmediateOrCancel, Stop}
@@ -10,12 +10,12 @@ use Rattle.market.specs.declared.words.Range.{Range}
 use Rattle.market.specs.declared.words.TapeLine.{TapeLine}
 use Rattle.market.specs.Sides.{opposite}
 use Rattle.replay.specs.Lists.{any, beyond}
-use Rattle.replay.specs.Days.{Fill, Day, Rule, Call, Set, LoadLimit, LoadStop, Open, Enter, CancelOrder, FloorTrade, Resume, Close, Answer, Lines, Entered}
+use Rattle.replay.specs.Days.{Fill, Day, Rule, Call, Set, LoadLimit, LoadStop, Open, Enter, CancelOrder, FloorTrade, Resume, Close, Lines, Entered}
 use Rattle.replay.specs.Rolls.{look, left, fresh}
 use Rattle.replay.specs.Book.{is_contra}
 use Rattle.replay.specs.Moves.{trade, leave, withdraw, rest, pause, elect, centre, admit, set_up, to, floored, resumed}
 use Rattle.replay.specs.Runs.{first_price, clean_up, next_price, print_at, residual, settle_of, settle, elect_at, centre_if, run, run_of, turn_of, turn, turns, work, busy, start_place, join_of, join}
-use Rattle.replay.specs.Calls.{after_calls, answers, tapes, refusal, decided, handed, checks, became, answered, perform, step}
+use Rattle.replay.specs.Calls.{after_calls, answers, tapes, refusal, decided, checks, became, answered, perform, step}
 use Rattle.replay.specs.History.{bare, Bare, bare_calls, bare_answers, bare_tapes, joined, BareRun, HistoryUnread}
 use Rattle.replay.proofs.Lists.{append_append, append_none}
 

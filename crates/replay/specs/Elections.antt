@@ -1,5 +1,5 @@
 -- A filed stop is elected by the first print or floor trade that reaches it, and by nothing else. Assumes nothing.
-use Rattle.std.specs.Prelude.{◌≡◌, ℕ, suc, ◌+◌, Bool, true, false, ◌⊎◌, List, ◌∷◌, ◌++◌, length, Some, None, Option, ◌==◌}
+use Rattle.std.specs.Prelude.{◌≡◌, ℕ, suc, Bool, true, false, ◌⊎◌, List, ◌∷◌, ◌++◌, length, Some, None, Option, ◌==◌}
 use Rattle.market.specs.declared.words.Side.{Side}
 use Rattle.market.specs.declared.words.Kind.TheVariants.{Stop}
 use Rattle.market.specs.declared.words.Place.{Place}
