@@ -12,7 +12,7 @@ returns-then-is-met g c =
 pub loop-i-preserved : goal.loop-i-preserved
 loop-i-preserved g c =
     let y = c.index-rows-i.result in
-    let e : misses c.args.sought (g.T.StopRow.carried (get_or c.args.rows.now c.loop-i.i y)) ≡ true = ap (λ u. misses c.args.sought (g.T.StopRow.carried u)) (sym c.index-rows-i.is) ∙ ap (misses c.args.sought) (sym c.stop.ensures) ∙ ap not (sym c.if-is-met.ensures) in
+    let e : misses c.args.sought (g.T.StopRow.carried (get_or c.args.rows.now c.loop-i.i y)) ≡ true = ap (λ u. misses c.args.sought (g.T.StopRow.carried u)) (sym c.index-rows-i.is) ∙ ap (misses c.args.sought) (sym c.stop.ensures) ∙ ap not (sym c.if-is_met.ensures) in
     omega (arith, c.loop-i.invariant, prefix_len-drop_yes (λ u. misses c.args.sought (g.T.StopRow.carried u)) c.args.rows.now c.loop-i.i y c.loop-i-test.true e)
 
 pub returns : goal.returns

@@ -5,7 +5,7 @@ use Rattle.stops.proofs.Turns.{taking_more, taking_full, taking_done}
 use Rattle.stops.proofs.taking.take_all_at.Goals as goal
 
 pub loop-n-preserved : goal.loop-n-preserved
-loop-n-preserved g c = (taking_more c.loop-n.invariant.0 c.loop-n-test.true c.in-Some.ensures.value c.take-at.ensures.listed, c.take-at.ensures.keeps ∙ c.loop-n.invariant.1)
+loop-n-preserved g c = (taking_more c.loop-n.invariant.0 c.loop-n-test.true c.in-Some.ensures.value c.take_at.ensures.listed, c.take_at.ensures.keeps ∙ c.loop-n.invariant.1)
 
 pub returns : goal.returns
 returns g c =

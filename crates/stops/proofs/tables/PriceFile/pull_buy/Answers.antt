@@ -34,8 +34,8 @@ invariant-of-self-2 c =
 pub returns : goal.returns
 returns c =
     let f = c.args.self.now in
-    let beside = buy_pulled f (take (f.buying - 1) c.remove-at.new.file) c.args.i c.in-Some.row c.in-Some.ensures.slots.0 c.in-Some.ensures.front in
+    let beside = buy_pulled f (take (f.buying - 1) c.remove_at.new.file) c.args.i c.in-Some.row c.in-Some.ensures.slots.0 c.in-Some.ensures.front in
     record {
       value = ap (λ (s : Stop). Some s) c.stop.ensures ∙ nth_map_some buy_of (buys_of f) c.args.i c.in-Some.row (sym c.in-Some.ensures.slots.0);
-      left = subst (λ (s : Stop). Beside s (held_by f) (both (take (f.buying - 1) c.remove-at.new.file) (sells_of f))) (sym c.stop.ensures) beside;
+      left = subst (λ (s : Stop). Beside s (held_by f) (both (take (f.buying - 1) c.remove_at.new.file) (sells_of f))) (sym c.stop.ensures) beside;
     }
