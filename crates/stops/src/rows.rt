@@ -62,7 +62,7 @@ impl StopRow for Stop {
 
 // The index of the first row that is looked for, or the number of rows.
 pub(crate) fn first_row<T: StopRow>(rows: &[T], sought: Sought) -> usize
-    ensures place { result ≡ prefix_len (λ u. misses sought (carried u)) rows.now }
+    ensures place { result ≡ prefix_len (λ u. misses sought (T.carried u)) rows.now }
     ensures within { result ≤ length rows.now }
 {
     for (i, row) in rows.iter().enumerate() {
@@ -75,7 +75,7 @@ pub(crate) fn first_row<T: StopRow>(rows: &[T], sought: Sought) -> usize
 
 // Whether a number is above those of all rows.
 pub(crate) fn is_above_all<T: StopRow>(rows: &[T], number: u32) -> bool
-    ensures { result ≡ above_all number (map carried rows.now) }
+    ensures { result ≡ above_all number (map T.carried rows.now) }
 {
     first_row(rows, Sought::NotBelow(number)) == rows.len()
 }
@@ -89,7 +89,7 @@ pub(crate) struct Found {
 
 // The row with the lowest number.
 pub(crate) fn lowest_row<T: StopRow>(rows: &[T]) -> Option<Found>
-    ensures { LeastRow (map carried rows.now) result }
+    ensures { LeastRow (map T.carried rows.now) result }
 {
     if rows.len() == 0 {
         return None;
@@ -108,7 +108,7 @@ pub(crate) fn lowest_row<T: StopRow>(rows: &[T]) -> Option<Found>
 
 // The row with the lowest number among those ahead of the first that the price does not elect.
 pub(crate) fn lowest_elected<T: StopRow>(rows: &[T], price: u32) -> Option<Found>
-    ensures { LeastRow (map carried (elected price carried rows.now)) result }
+    ensures { LeastRow (map T.carried (elected price T.carried rows.now)) result }
 {
     let end = first_row(rows, Sought::Asleep(price));
     lowest_row(&rows[0..end])

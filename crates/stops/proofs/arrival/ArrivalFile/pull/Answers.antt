@@ -10,13 +10,13 @@ returns c =
     let t = meets c.args.sought in
     let xs = c.args.self.now.slots.now in
     let h = c.args.self.now.held in
-    let p = pulled_some t xs c.remove-at.new.file h c.count-n.result c.place-of-i.result c.count-n.ensures c.place-of-i.ensures c.in-Some.stop c.remove-at.auto.file c.in-Some.ensures.slots.0 c.in-Some.ensures.front in
-    record { value = p.0; lowest = λ up. p.0 ∙ sym (lowest_first t (filled h xs) up); listed = p.1; keeps = c.remove-at.auto.file }
+    let p = pulled_some t xs c.remove_at.new.file h c.count-n.result c.place_of-i.result c.count-n.ensures c.place_of-i.ensures c.in-Some.stop c.remove_at.auto.file c.in-Some.ensures.slots.0 c.in-Some.ensures.front in
+    record { value = p.0; lowest = λ up. p.0 ∙ sym (lowest_first t (filled h xs) up); listed = p.1; keeps = c.remove_at.auto.file }
 
-pub returns-in-default : goal.returns-in-default
-returns-in-default c =
+pub returns-in_default : goal.returns-in_default
+returns-in_default c =
     let t = meets c.args.sought in
     let xs = c.args.self.now.slots.now in
     let h = c.args.self.now.held in
-    let p = pulled_none t xs c.remove-at.new.file h c.count-n.result c.place-of-i.result c.count-n.ensures c.place-of-i.ensures c.in-default.ensures.there c.in-default.ensures.slots in
-    record { value = p.0; lowest = λ up. p.0 ∙ sym (lowest_first t (filled h xs) up); listed = p.1; keeps = c.remove-at.auto.file }
+    let p = pulled_none t xs c.remove_at.new.file h c.count-n.result c.place_of-i.result c.count-n.ensures c.place_of-i.ensures c.in_default.ensures.there c.in_default.ensures.slots in
+    record { value = p.0; lowest = λ up. p.0 ∙ sym (lowest_first t (filled h xs) up); listed = p.1; keeps = c.remove_at.auto.file }

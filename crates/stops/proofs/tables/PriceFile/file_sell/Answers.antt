@@ -9,38 +9,34 @@ use Rattle.stops.proofs.Shifts.{as_sell_lem, sell_filed}
 use Rattle.stops.proofs.tables.PriceFile.file_sell.Goals as goal
 
 -- there is a free row, so the refusal does not happen
-pub invariant-of-self : goal.invariant-of-self
-invariant-of-self c =
+pub invariant_of-self : goal.invariant_of-self
+invariant_of-self c =
     let f = c.args.self.now in
     let free = length_held f in
     let room = c.requires.room in
-    absurd (omega (arith, ltb-false f.selling (length f.sells) (sym c.in-default.ensures.room), f.long, free, room))
+    absurd (omega (arith, ltb-false f.selling (length f.sells) (sym c.in_default.ensures.room), f.long, free, room))
 
-pub returns-in-default : goal.returns-in-default
-returns-in-default c =
+pub returns-in_default : goal.returns-in_default
+returns-in_default c =
     let f = c.args.self.now in
     let free = length_held f in
     let room = c.requires.room in
-    absurd (omega (arith, ltb-false f.selling (length f.sells) (sym c.in-default.ensures.room), f.long, free, room))
+    absurd (omega (arith, ltb-false f.selling (length f.sells) (sym c.in_default.ensures.room), f.long, free, room))
 
-pub invariant-of-self-2 : goal.invariant-of-self-2
-invariant-of-self-2 c =
+pub invariant_of-self-2 : goal.invariant_of-self-2
+invariant_of-self-2 c =
     let f = c.args.self.now in
     let free = length_held f in
     let room = c.requires.room in
     let s = c.args.stop in
     let ys = c.insert.new.file in
     let row : SellStop = record { number = s.number; price = s.price; shares = s.shares } in
-    let beside = sell_filed f (take (f.selling + 1) ys) row c.in-Ok.ensures.front in (
-      (f.long.0, c.insert.auto.file ∙ f.long.1),
-      (
-        omega (arith, free, room),
-        (
-          (f.ranked.0, turn_of_lem high_first (take (f.selling + 1) ys) (c.in-Ok.ensures.lawful.ordered (order_of high_first (sells_of f) f.ranked.1))),
-          (apart_test (both (buys_of f) (take (f.selling + 1) ys)) (joined_apart beside (above_all_lem s.number (held_by f) (sym (above_by_number s.number (held_by f)) ∙ c.requires.above)) (apart_of (held_by f) f.distinct)), tt),
-        ),
-      ),
-    )
+    let beside = sell_filed f (take (f.selling + 1) ys) row c.in-Ok.ensures.front in record {
+      long = (f.long.0, c.insert.auto.file ∙ f.long.1);
+      within = omega (arith, free, room);
+      ranked = (f.ranked.0, turn_of_lem high_first (take (f.selling + 1) ys) (c.in-Ok.ensures.lawful.ordered (order_of high_first (sells_of f) f.ranked.1)));
+      distinct = apart_test (both (buys_of f) (take (f.selling + 1) ys)) (joined_apart beside (above_all_lem s.number (held_by f) (sym (above_by_number s.number (held_by f)) ∙ c.requires.above)) (apart_of (held_by f) f.distinct));
+    }
 
 pub returns : goal.returns
 returns c =

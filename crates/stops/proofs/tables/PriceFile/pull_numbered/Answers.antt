@@ -10,5 +10,5 @@ pub returns : goal.returns
 returns c =
     let t = numbered c.args.number in
     let held = held_by c.args.self.now in
-    let k = led t c.pull.result held (held_by c.pull.new.self) (apart_of held c.args.self.now.distinct) (subst (λ (o : Option Stop). Leads t o held) (sym c.pull.ensures.value) c.seat-of-seat.ensures) c.pull.ensures.left in
+    let k = led t c.pull.result held (held_by c.pull.new.self) (apart_of held c.args.self.now.distinct) (subst (λ (o : Option Stop). Leads t o held) (sym c.pull.ensures.value) c.seat_of-seat.ensures) c.pull.ensures.left in
     record { value = k.0; listed = k.1 }

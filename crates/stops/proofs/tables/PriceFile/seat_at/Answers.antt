@@ -12,8 +12,8 @@ pub returns : goal.returns
 returns c =
     let f = c.args.self.now in
     let p = c.args.price in
-    let b = c.lowest-elected-buy.result in
-    let s = c.lowest-elected-sell.result in
+    let b = c.lowest_elected-buy.result in
+    let s = c.lowest_elected-sell.result in
     let low : LeastRow (map buy_of (elected p buy_of (buys_of f))) b = search rules in
     let high : LeastRow (map sell_of (elected p sell_of (sells_of f))) s = search rules in
-    subst (λ (o : Option Seat). Leads (elects p) (seated (buys_of f) (sells_of f) o) (held_by f)) (sym c.lower-seat.ensures) (seat_leads (elects p) (buys_of f) (sells_of f) b s (spotted buy_of p (buys_of f) (asleep buy_of p low_first (buys_stay p) (buys_of f) (order_of low_first (buys_of f) f.ranked.0)) b low) (spotted sell_of p (sells_of f) (asleep sell_of p high_first (sells_stay p) (sells_of f) (order_of high_first (sells_of f) f.ranked.1)) s high))
+    subst (λ (o : Option Seat). Leads (elects p) (seated (buys_of f) (sells_of f) o) (held_by f)) (sym c.lower_seat.ensures) (seat_leads (elects p) (buys_of f) (sells_of f) b s (spotted buy_of p (buys_of f) (asleep buy_of p low_first (buys_stay p) (buys_of f) (order_of low_first (buys_of f) f.ranked.0)) b low) (spotted sell_of p (sells_of f) (asleep sell_of p high_first (sells_stay p) (sells_of f) (order_of high_first (sells_of f) f.ranked.1)) s high))

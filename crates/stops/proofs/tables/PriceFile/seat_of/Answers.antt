@@ -11,7 +11,7 @@ pub returns-then-i-self : goal.returns-then-i-self
 returns-then-i-self c =
     let f = c.args.self.now in
     let n = c.args.number in
-    let i = c.first-row-i.result in
+    let i = c.first_row-i.result in
     let at : i ≡ prefix_len (λ u. not (numbered n (buy_of u))) (buys_of f) = search rules in
     number_found buy_of n (buys_of f) i at (held_by f) (omega (arith, f.long, f.within, length-take f.buying f.buys, c.if-i-self.true))
 
@@ -19,7 +19,7 @@ pub returns-then-j-self : goal.returns-then-j-self
 returns-then-j-self c =
     let f = c.args.self.now in
     let n = c.args.number in
-    let j = c.first-row-j.result in
+    let j = c.first_row-j.result in
     let at : j ≡ prefix_len (λ u. not (numbered n (sell_of u))) (sells_of f) = search rules in
     number_found sell_of n (sells_of f) j at (held_by f) (omega (arith, f.long, f.within, length-take f.selling f.sells, c.if-j-self.true))
 
@@ -27,8 +27,8 @@ pub returns : goal.returns
 returns c =
     let f = c.args.self.now in
     let n = c.args.number in
-    let i = c.first-row-i.result in
-    let j = c.first-row-j.result in
+    let i = c.first_row-i.result in
+    let j = c.first_row-j.result in
     let at : i ≡ prefix_len (λ u. not (numbered n (buy_of u))) (buys_of f) = search rules in
     let by : j ≡ prefix_len (λ u. not (numbered n (sell_of u))) (sells_of f) = search rules in
     All-append (λ u. numbered n u ≡ false) (map buy_of (buys_of f)) (map sell_of (sells_of f))
