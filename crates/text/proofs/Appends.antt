@@ -1,5 +1,5 @@
 -- One piece of text after another. Assumes nothing.
-use Rattle.std.proofs.Common.{◌≡◌, ℕ, List, [], ◌∷◌, ◌++◌, sym, refl, ap, ◌∙◌, append_assoc, append-nil}
+use Rattle.std.proofs.Common.{◌≡◌, ℕ, List, [], ◌∷◌, ◌++◌, sym, ap, ◌∙◌, append_assoc, append-nil}
 use Rattle.text.specs.Written.{tabbed}
 
 pub appended : {A : Type 0} {mid end : List A} (before x y : List A) → mid ≡ before ++ x → end ≡ mid ++ y → end ≡ before ++ (x ++ y)

@@ -1,12 +1,12 @@
 -- What was read of a text's first line, and the lines behind it. Assumes nothing.
-use Rattle.std.proofs.Common.{◌≡◌, ℕ, suc, ◌+◌, ◌-◌, ◌<◌, ◌≤◌, Bool, true, false, cond, not, eqb, List, [], ◌∷◌, ◌++◌, length, drop, is_ok, is_err, Ok, Err, Result, sym, refl, ap, ◌∙◌, subst, ⊎_elim, append_assoc, arith}
+use Rattle.std.proofs.Common.{◌≡◌, ℕ, ◌+◌, ◌-◌, ◌<◌, ◌≤◌, Bool, true, false, cond, not, eqb, List, [], ◌∷◌, ◌++◌, length, drop, is_ok, is_err, Ok, Err, Result, sym, refl, ap, ◌∙◌, ⊎_elim, append_assoc, arith}
 use Rattle.std.proofs.lemmas.List.{length-drop, drop_all}
 use Rattle.std.proofs.lemmas.Bool.{ne_eqb, cases_lt}
 use Rattle.text.specs.declared.refusal.Refusal.TheVariants.{EmptyText}
 use Rattle.text.specs.declared.record.Record.{Record}
 use Rattle.text.specs.declared.field.LineFault.{LineFault}
 use Rattle.text.specs.declared.read.Fault.{Fault}
-use Rattle.text.specs.Cuts.{up_to, past, line_of, rest_of, next_of}
+use Rattle.text.specs.Cuts.{up_to, line_of, rest_of, next_of}
 use Rattle.text.specs.Reading.{fault_at, record_in, read_as, read_of}
 use Rattle.text.specs.Inspection.{on_first, lines_of, shown_as, shown_from, one, good_in, refused_in}
 use Rattle.text.proofs.Marks.{past_is}

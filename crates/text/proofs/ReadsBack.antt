@@ -1,5 +1,5 @@
 -- What was written reads back as its record. Assumes nothing.
-use Rattle.std.proofs.Common.{◌≡◌, ℕ, zero, suc, ◌+◌, ◌^◌, ◌<◌, ◌≤◌, Bool, true, false, cond, eqb, leb, List, [], ◌∷◌, ◌++◌, length, get_or, drop, Some, None, Ok, Err, decimal, Option, Result, sym, refl, ap, ◌∙◌, subst, append_assoc, arith}
+use Rattle.std.proofs.Common.{◌≡◌, ℕ, suc, ◌+◌, ◌<◌, ◌≤◌, Bool, true, false, cond, eqb, leb, List, [], ◌∷◌, ◌++◌, length, get_or, drop, Some, Ok, Err, decimal, Result, sym, refl, ap, ◌∙◌, subst, append_assoc, arith}
 use Rattle.std.proofs.lemmas.Bool.Decides.{nat_tests}
 use Rattle.std.proofs.lemmas.Bool.{eq-eqb, ne_eqb}
 use Rattle.market.specs.declared.words.Side.{Side}
@@ -12,8 +12,7 @@ use Rattle.text.specs.declared.record.PricedOrder.{PricedOrder}
 use Rattle.text.specs.declared.record.Record.{Record}
 use Rattle.text.specs.declared.record.Record.TheVariants.{Set, Limit, ImmediateOrCancel, Stop, Market, Cancel, FloorTrade, Resume, Open, Close}
 use Rattle.text.specs.declared.field.LineFault.{LineFault}
-use Rattle.text.specs.declared.read.Fault.{Fault}
-use Rattle.text.specs.Cuts.{up_to, past, marks, field_at, field_count, line_of, rest_of}
+use Rattle.text.specs.Cuts.{past, marks, field_at, field_count, line_of, rest_of}
 use Rattle.text.specs.Numbers.{number_in}
 use Rattle.text.specs.Letters.{side_in, column_in, side_letter, column_letter}
 use Rattle.text.specs.Reading.{fault_at, set_from, set_in, priced_from, priced_in, market_from, market_in, pair_from, pair_in, as_record, record_in, read_as, read_of}

@@ -1,5 +1,5 @@
 -- A text cut at a mark: lines end with byte 10, fields are parted by byte 9.
-use Rattle.std.specs.Prelude.{ℕ, zero, suc, ◌+◌, ◌-◌, Bool, true, false, cond, List, [], ◌∷◌, ◌++◌, length, ◌==◌}
+use Rattle.std.specs.Prelude.{ℕ, zero, suc, ◌+◌, ◌-◌, cond, List, [], ◌∷◌, length, ◌==◌}
 
 -- the bytes before the first mark, or all of them
 abbrev pub up_to : ℕ → List ℕ → List ℕ

@@ -1,4 +1,4 @@
-use Rattle.std.proofs.Common.{[], ◌∷◌, decimal}
+use Rattle.std.proofs.Common.{[], decimal}
 use Rattle.text.proofs.Appends.{wrote, ended}
 use Rattle.text.proofs.tape.elect_line.Goals as goal
 

@@ -8,7 +8,7 @@ pub returns : goal.returns
 returns c =
     let o = c.args.order in
     let side = side_letter o.side ∷ [] in
-    let a = wrote c.args.letter [] side c.new.ensures.text (c.letter.ensures.text ∙ ap (λ byte. text_of c.new.result ++ 9 ∷ byte ∷ []) c.side-letter.ensures) in
+    let a = wrote c.args.letter [] side c.new.ensures.text (c.letter.ensures.text ∙ ap (λ byte. text_of c.new.result ++ 9 ∷ byte ∷ []) c.side_letter.ensures) in
     let b = wrote c.args.letter (side ∷ []) (decimal o.member) a c.number.ensures.text in
     let d = wrote c.args.letter (side ∷ decimal o.member ∷ []) (decimal o.price) b c.number-2.ensures.text in
     let e = wrote c.args.letter (side ∷ decimal o.member ∷ decimal o.price ∷ []) (decimal o.shares) d c.number-3.ensures.text in

@@ -8,5 +8,5 @@ returns c =
     record {
       answer = search rules;
       buffer = search rules;
-      back = written_back c.args.«record» (sym c.numbers-fit.ensures ∙ c.if-not-numbers-fit.false) (text_of c.line-of.result) c.args.buffer.now c.line-of.ensures c.copy-to.result c.copy-to.new.buffer c.copy-to.ensures.answer c.copy-to.ensures.buffer;
+      back = written_back c.args.«record» (sym c.numbers_fit.ensures ∙ c.if-not-numbers_fit.false) (text_of c.line_of.result) c.args.buffer.now c.line_of.ensures c.copy_to.result c.copy_to.new.buffer c.copy_to.ensures.answer c.copy_to.ensures.buffer;
     }

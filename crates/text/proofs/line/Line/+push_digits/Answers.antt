@@ -15,8 +15,8 @@ returns-then-n-lt10 t c =
       len = omega (arith, width_one c.args.n (omega arith));
     }
 
-pub push-digits-requires : goal.push-digits-requires
-push-digits-requires t c = let w = width_more c.args.n (omega arith) (omega arith) in (omega arith, omega arith)
+pub push_digits-requires : goal.push_digits-requires
+push_digits-requires t c = let w = width_more c.args.n (omega arith) (omega arith) in (omega arith, omega arith)
 
 pub push-requires-2 : goal.push-requires-2
 push-requires-2 t c = let w = width_more c.args.n (omega arith) (omega arith) in omega arith
@@ -24,6 +24,6 @@ push-requires-2 t c = let w = width_more c.args.n (omega arith) (omega arith) in
 pub returns : goal.returns
 returns t c =
     record {
-      text = appended (text_of c.args.self.now) (decimal (c.args.n / 10)) ((48 + c.args.n % 10) ∷ []) c.push-digits.ensures.text c.push-2.ensures.text ∙ ap (λ l. text_of c.args.self.now ++ l) (sym (decimal_step c.args.n (omega arith) (omega arith)));
+      text = appended (text_of c.args.self.now) (decimal (c.args.n / 10)) ((48 + c.args.n % 10) ∷ []) c.push_digits.ensures.text c.push-2.ensures.text ∙ ap (λ l. text_of c.args.self.now ++ l) (sym (decimal_step c.args.n (omega arith) (omega arith)));
       len = omega (arith, width_more c.args.n (omega arith) (omega arith));
     }

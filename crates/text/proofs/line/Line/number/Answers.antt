@@ -4,12 +4,12 @@ use Rattle.text.proofs.Appends.{appended}
 use Rattle.text.proofs.Digits.{width_most}
 use Rattle.text.proofs.line.Line.number.Goals as goal
 
-pub push-digits-requires : goal.push-digits-requires
-push-digits-requires c = omega (arith, width_most c.args.n (omega arith))
+pub push_digits-requires : goal.push_digits-requires
+push_digits-requires c = omega (arith, width_most c.args.n (omega arith))
 
 pub returns : goal.returns
 returns c =
     record {
-      text = appended (text_of c.args.self) (9 ∷ []) (decimal c.args.n) c.push.ensures.text c.push-digits.ensures.text;
+      text = appended (text_of c.args.self) (9 ∷ []) (decimal c.args.n) c.push.ensures.text c.push_digits.ensures.text;
       within = omega (arith, width_most c.args.n (omega arith));
     }
