@@ -12,10 +12,10 @@ loop-preserved g c =
     let lists = c.both-seen.ensures.lists i.0 i.1 in
     let rooms = c.both-seen.ensures.rooms i.1 in
     let seen = c.both-seen.ensures.same i.0 i.1 in
-    let level = c.as-many-level.ensures lists rooms in (
+    let level = c.as_many-level.ensures lists rooms in (
       lists,
       rooms,
-      c.note.ensures ∙ and_from c.loop.tally.same (c.both-seen.result.same && c.as-many-level.result) i.2 (and_from c.both-seen.result.same c.as-many-level.result seen level),
+      c.note.ensures ∙ and_from c.loop.tally.same (c.both-seen.result.same && c.as_many-level.result) i.2 (and_from c.both-seen.result.same c.as_many-level.result seen level),
     )
 
 pub returns : goal.returns
