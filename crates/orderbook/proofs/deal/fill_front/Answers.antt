@@ -13,19 +13,19 @@ use Rattle.orderbook.proofs.deal.fill_front.Goals.{then-better, else-better}
 pub loop-i-init : goal.loop-i-init
 loop-i-init g c = (dealing g.S.BookSide.side c.args.price (listed c.args.roll.now) c.args.gifts.now c.requires.tied.sound c.requires.gifts, omega arith)
 
-pub returns-then-not-as-good : goal.returns-then-not-as-good
-returns-then-not-as-good g c =
+pub returns-then-not-as_good : goal.returns-then-not-as_good
+returns-then-not-as_good g c =
     let s = g.S.BookSide.side in
     let os = listed c.args.roll.now in
     let t = c.args.table.now in
     let i = c.loop-i.i in
     let lt : i < length (book s os) = omega (arith, as_long s os t c.requires.tied) in
     let worse : as_good s (get_or (book s os) i blank).price c.args.price ≡ false =
-    ap (λ n. as_good s n c.args.price) (sym (priced s os t c.requires.tied i c.index-table-i-in-loop-i.result c.loop-i-test.true)) ∙ sym c.if-not-as-good.ensures in
+    ap (λ n. as_good s n c.args.price) (sym (priced s os t c.requires.tied i c.index-table-i-in-loop-i.result c.loop-i-test.true)) ∙ sym c.if-not-as_good.ensures in
     deal_stop (dealing_at (book s os) i lt c.loop-i.invariant.0) worse
 
-pub offset-bounds-gifts-given : goal.offset-bounds-gifts-given
-offset-bounds-gifts-given g c = omega (arith, c.loop-i.invariant.1, few_rows _ _ _ c.requires.tied)
+pub offset_bounds-gifts-given : goal.offset_bounds-gifts-given
+offset_bounds-gifts-given g c = omega (arith, c.loop-i.invariant.1, few_rows _ _ _ c.requires.tied)
 
 pub bounds-gifts-given : goal.bounds-gifts-given
 bounds-gifts-given g c =
@@ -35,13 +35,13 @@ bounds-gifts-given g c =
     let i = c.loop-i.i in
     let lt : i < length (book s os) = omega (arith, as_long s os t c.requires.tied) in
     let good : as_good s (get_or (book s os) i blank).price c.args.price ≡ true =
-    ap (λ n. as_good s n c.args.price) (sym (priced s os t c.requires.tied i c.index-table-i-in-loop-i.result c.loop-i-test.true)) ∙ sym c.if-not-as-good.ensures in
+    ap (λ n. as_good s n c.args.price) (sym (priced s os t c.requires.tied i c.index-table-i-in-loop-i.result c.loop-i-test.true)) ∙ sym c.if-not-as_good.ensures in
     let no_better : better s (get_or (book s os) i blank).price c.args.price ≡ false =
     ap (λ n. better s n c.args.price) (sym (priced s os t c.requires.tied i c.index-table-i-in-loop-i-2.result c.loop-i-test.true)) ∙ sym c.better.ensures ∙ c.if-better.false in
     gift_there (dealing_at (book s os) i lt c.loop-i.invariant.0) c.args.gifts.now c.loop-i.given (good_level s _ _ good no_better) refl
 
-pub overflow-add-given : goal.overflow-add-given
-overflow-add-given g c = omega (arith, c.loop-i.invariant.1, few_rows _ _ _ c.requires.tied)
+pub overflow_add-given : goal.overflow_add-given
+overflow_add-given g c = omega (arith, c.loop-i.invariant.1, few_rows _ _ _ c.requires.tied)
 
 pub loop-i-preserved : goal.loop-i-preserved
 loop-i-preserved g c =
@@ -56,15 +56,15 @@ loop-i-preserved g c =
     let number : (get_or t i c.index-table-i.result).number ≡ x.number = named s os t c.requires.tied i c.index-table-i.result c.loop-i-test.true in
     let price : (get_or t i c.index-table-i-in-loop-i-2.result).price ≡ x.price = priced s os t c.requires.tied i c.index-table-i-in-loop-i-2.result c.loop-i-test.true in
     let good : as_good s x.price p ≡ true =
-    ap (λ n. as_good s n p) (sym (priced s os t c.requires.tied i c.index-table-i-in-loop-i.result c.loop-i-test.true)) ∙ sym c.if-not-as-good.ensures in
+    ap (λ n. as_good s n p) (sym (priced s os t c.requires.tied i c.index-table-i-in-loop-i.result c.loop-i-test.true)) ∙ sym c.if-not-as_good.ensures in
     elim c.if-better.branch [
       | then-better w ↦
           let better' : better s x.price p ≡ true = ap (λ n. better s n p) (sym price) ∙ sym c.better.ensures ∙ w.if-better.true in
-          let shares : w.order-numbered-open.result.«open» ≡ x.«open» =
-          ap (λ o. o.«open») (w.order-numbered-open.ensures ∙ ap (λ n. get_or (listed c.loop-i.roll) (n - 1) blank) number ∙ deal_open d) in
+          let shares : w.order_numbered-open.result.«open» ≡ x.«open» =
+          ap (λ o. o.«open») (w.order_numbered-open.ensures ∙ ap (λ n. get_or (listed c.loop-i.roll) (n - 1) blank) number ∙ deal_open d) in
           rw (w.roll-is, w.given-is) (
-            deal_better d (listed w.fill.new.roll) w.order-numbered-open.result.«open» better' shares
-                (w.fill.ensures ∙ ap (λ n. does_at (Fill w.order-numbered-open.result.«open») (n - 1) (listed c.loop-i.roll)) number),
+            deal_better d (listed w.fill.new.roll) w.order_numbered-open.result.«open» better' shares
+                (w.fill.ensures ∙ ap (λ n. does_at (Fill w.order_numbered-open.result.«open») (n - 1) (listed c.loop-i.roll)) number),
             omega (arith, c.loop-i.invariant.1),
           )
       | else-better w ↦

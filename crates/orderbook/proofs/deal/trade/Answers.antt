@@ -7,11 +7,11 @@ use Rattle.orderbook.proofs.deal.trade.Goals as goal
 
 pub returns : goal.returns
 returns g c =
-    let rows : length c.trade-rows.new.table ≡ c.args.held = omega (arith, c.trade-rows.auto.table, c.requires.room.0, c.requires.room.1, length-take c.args.held c.args.table.now) in
-    let within : c.trade-rows.result.held ≤ c.args.held = omega (arith, c.trade-rows.ensures.within, c.requires.room.0, c.requires.room.1, length-take c.args.held c.args.table.now) in
+    let rows : length c.trade_rows.new.table ≡ c.args.held = omega (arith, c.trade_rows.auto.table, c.requires.room.0, c.requires.room.1, length-take c.args.held c.args.table.now) in
+    let within : c.trade_rows.result.held ≤ c.args.held = omega (arith, c.trade_rows.ensures.within, c.requires.room.0, c.requires.room.1, length-take c.args.held c.args.table.now) in
     record {
-      shares = c.trade-rows.ensures.shares;
-      roll = c.trade-rows.ensures.roll;
+      shares = c.trade_rows.ensures.shares;
+      roll = c.trade_rows.ensures.roll;
       within = within;
-      tied = subst (λ l. Tied g.S.BookSide.side (listed c.trade-rows.new.roll) (keys l)) (sym (take-append-le c.trade-rows.result.held c.trade-rows.new.table _ (omega arith))) c.trade-rows.ensures.tied;
+      tied = subst (λ l. Tied g.S.BookSide.side (listed c.trade_rows.new.roll) (keys l)) (sym (take-append-le c.trade_rows.result.held c.trade_rows.new.table _ (omega arith))) c.trade_rows.ensures.tied;
     }

@@ -13,14 +13,14 @@ returns-then-not-better g c =
     let lt : c.loop-i.i < length (book s os) = omega (arith, as_long s os c.args.table.now c.requires) in
     record {
       shares = sum_stop s os c.requires.sound.numbered (λ o. better s o.price c.args.price) (λ a b. not_better_stays s (key_of a) (key_of b) c.args.price) c.loop-i.i
-          c.order-at-order.result lt c.order-at-order.ensures (λ o. o.«open») c.loop-i.sum _ (sym c.if-not-better.ensures) c.loop-i.invariant.0
+          c.order_at-order.result lt c.order_at-order.ensures (λ o. o.«open») c.loop-i.sum _ (sym c.if-not-better.ensures) c.loop-i.invariant.0
           ∙ ahead_book s c.args.price os;
       small = omega (arith, c.loop-i.invariant.1, few_rows s os c.args.table.now c.requires);
     }
 
-pub overflow-add-sum : goal.overflow-add-sum
-overflow-add-sum g c =
-    omega (arith, c.loop-i.invariant.1, ap (λ o. o.«open») c.order-at-order.ensures, few_open _ _ _ c.requires c.loop-i.i c.loop-i-test.true, few_rows _ _ _ c.requires)
+pub overflow_add-sum : goal.overflow_add-sum
+overflow_add-sum g c =
+    omega (arith, c.loop-i.invariant.1, ap (λ o. o.«open») c.order_at-order.ensures, few_open _ _ _ c.requires c.loop-i.i c.loop-i-test.true, few_rows _ _ _ c.requires)
 
 pub loop-i-preserved : goal.loop-i-preserved
 loop-i-preserved g c =
@@ -28,8 +28,8 @@ loop-i-preserved g c =
     let os = listed c.args.roll.now in
     let lt : c.loop-i.i < length (book s os) = omega (arith, as_long s os c.args.table.now c.requires) in (
       sum_more s os c.requires.sound.numbered (λ o. better s o.price c.args.price) (λ a b. not_better_stays s (key_of a) (key_of b) c.args.price) c.loop-i.i
-          c.order-at-order.result lt c.order-at-order.ensures (λ o. o.«open») c.loop-i.sum _ (sym c.if-not-better.ensures) c.loop-i.invariant.0,
-      omega (arith, c.loop-i.invariant.1, ap (λ o. o.«open») c.order-at-order.ensures, few_open _ _ _ c.requires c.loop-i.i c.loop-i-test.true),
+          c.order_at-order.result lt c.order_at-order.ensures (λ o. o.«open») c.loop-i.sum _ (sym c.if-not-better.ensures) c.loop-i.invariant.0,
+      omega (arith, c.loop-i.invariant.1, ap (λ o. o.«open») c.order_at-order.ensures, few_open _ _ _ c.requires c.loop-i.i c.loop-i-test.true),
     )
 
 pub returns : goal.returns

@@ -6,6 +6,6 @@ use Rattle.orderbook.proofs.rows.order_at.Goals as goal
 
 pub returns : goal.returns
 returns g c =
-    c.order-numbered.ensures
+    c.order_numbered.ensures
     ∙ ap (λ n. get_or (listed c.args.roll.now) (n - 1) blank) (named _ _ _ c.requires.tied c.args.at c.index-table-at.result c.requires.there)
     ∙ (read _ _ _ c.requires.tied c.args.at c.requires.there).is

@@ -9,15 +9,15 @@ use Rattle.orderbook.proofs.Reading.{as_long, rest_fails, pick_yes, pick_no, pic
 use Rattle.orderbook.proofs.rows.row.Goals as goal
 use Rattle.orderbook.proofs.rows.row.Goals.{then-order-price, else-order-price}
 
-pub returns-then-not-as-good : goal.returns-then-not-as-good
-returns-then-not-as-good g c =
+pub returns-then-not-as_good : goal.returns-then-not-as_good
+returns-then-not-as_good g c =
     let s = g.S.BookSide.side in
     let os = listed c.args.roll.now in
     let p = c.args.price in
     let n : length c.args.table.now ≡ length (book s os) = as_long s os c.args.table.now c.requires.tied in
     let lt : c.loop-i.i < length (book s os) = omega arith in
-    let fails = rest_fails s os c.requires.tied.sound.numbered (λ o. as_good s o.price p) (λ a b. worse_stays s (key_of a) (key_of b) p) c.loop-i.i c.order-at-order.result lt
-    c.order-at-order.ensures (sym c.if-not-as-good.ensures) in
+    let fails = rest_fails s os c.requires.tied.sound.numbered (λ o. as_good s o.price p) (λ a b. worse_stays s (key_of a) (key_of b) p) c.loop-i.i c.order_at-order.result lt
+    c.order_at-order.ensures (sym c.if-not-as_good.ensures) in
     record {
       within = omega (arith, c.loop-i.invariant.1);
       row = pick_stop (λ o. eqb o.price p) (book s os) c.loop-i.out _ c.loop-i.count c.loop-i.i c.loop-i.invariant.0
@@ -36,12 +36,12 @@ loop-i-preserved g c =
     elim c.if-order-price.branch [
       | then-order-price w ↦ rw (w.out-is, w.count-is) (
         pick_yes (λ o. eqb o.price p) (book s os) c.loop-i.out _ c.loop-i.count c.loop-i.i c.loop-i.invariant.0
-            c.order-at-order.result lt c.order-at-order.ensures room (eq-eqb _ _ w.if-order-price.true),
+            c.order_at-order.result lt c.order_at-order.ensures room (eq-eqb _ _ w.if-order-price.true),
         omega (arith, c.loop-i.invariant.1),
       )
       | else-order-price w ↦ rw (w.out-is, w.count-is) (
         pick_no (λ o. eqb o.price p) (book s os) c.loop-i.out _ c.loop-i.count c.loop-i.i c.loop-i.invariant.0
-            c.order-at-order.result lt c.order-at-order.ensures (ne_eqb _ _ w.if-order-price.false),
+            c.order_at-order.result lt c.order_at-order.ensures (ne_eqb _ _ w.if-order-price.false),
         omega (arith, c.loop-i.invariant.1),
       )
     ]

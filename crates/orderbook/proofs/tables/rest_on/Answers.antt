@@ -24,11 +24,11 @@ returns g c =
     let sound = c.requires.tied.sound in
     let room : c.args.held < 512 =
     omega (arith, rest_room s n sound w c.requires.on c.requires.off, long_as s os t c.requires.tied, length-take c.args.held c.args.table.now, c.requires.room.0, c.requires.room.1) in
-    let roll : listed c.change.new.self ≡ alter n (put Book) os = c.change.ensures.roll ∙ ap (λ i. does_at Rest i os) c.saturating-sub.ensures ∙ does_at_lem sound Rest n w.0 w.1 in
-    let x : Resting g.row.S.Denot = record { price = c.order-numbered-price.result.price; number = n; side = c.args.side } in
+    let roll : listed c.change.new.self ≡ alter n (put Book) os = c.change.ensures.roll ∙ ap (λ i. does_at Rest i os) c.saturating_sub.ensures ∙ does_at_lem sound Rest n w.0 w.1 in
+    let x : Resting g.row.S.Denot = record { price = c.order_numbered-price.result.price; number = n; side = c.args.side } in
     let front : take (c.args.held + 1) c.insert.new.file ≡ filed (λ a b. precedes s (key_in a) (key_in b)) x t =
     front_ok _ c.insert.result (c.insert.ensures.room ∙ lt-ltb c.args.held (length c.args.table.now) (omega (arith, c.requires.room.0))) c.insert.ensures.front in
-    let key : key_in x ≡ key_of (get_or os (n - 1) blank) = same_key _ _ (ap (λ o. o.price) c.order-numbered-price.ensures) (sym (number_at sound n w.0 w.1)) in
+    let key : key_in x ≡ key_of (get_or os (n - 1) blank) = same_key _ _ (ap (λ o. o.price) c.order_numbered-price.ensures) (sym (number_at sound n w.0 w.1)) in
     record {
       roll = roll;
       room = room;

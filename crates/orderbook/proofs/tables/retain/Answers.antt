@@ -3,14 +3,14 @@ use Rattle.std.proofs.lemmas.List.Filters.{FiltersInPlace-more_no, FiltersInPlac
 use Rattle.market.specs.Rolls.{listed}
 use Rattle.orderbook.specs.Tables.{stays}
 use Rattle.orderbook.proofs.tables.retain.Goals as goal
-use Rattle.orderbook.proofs.tables.retain.Goals.{then-is-kept, else-is-kept}
+use Rattle.orderbook.proofs.tables.retain.Goals.{then-is_kept, else-is_kept}
 
 pub loop-i-preserved : goal.loop-i-preserved
 loop-i-preserved g c =
     let lt : c.loop-i.i < length c.loop-i.table = omega arith in
-    elim c.if-is-kept.branch [
-      | then-is-kept w ↦ rw (w.table-is, w.kept-is) (FiltersInPlace-more_set c.loop-i.invariant lt (sym w.if-is-kept.ensures) c.index-table-i.is)
-      | else-is-kept w ↦ rw (w.table-is, w.kept-is) (FiltersInPlace-more_no c.loop-i.invariant lt (sym w.if-is-kept.ensures) c.index-table-i.is)
+    elim c.if-is_kept.branch [
+      | then-is_kept w ↦ rw (w.table-is, w.kept-is) (FiltersInPlace-more_set c.loop-i.invariant lt (sym w.if-is_kept.ensures) c.index-table-i.is)
+      | else-is_kept w ↦ rw (w.table-is, w.kept-is) (FiltersInPlace-more_no c.loop-i.invariant lt (sym w.if-is_kept.ensures) c.index-table-i.is)
     ]
 
 pub returns : goal.returns

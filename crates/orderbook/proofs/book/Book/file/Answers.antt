@@ -9,13 +9,13 @@ use Rattle.orderbook.proofs.Upkeep.{kept, sound}
 use Rattle.orderbook.proofs.Moving.{alike_put, kept_off}
 use Rattle.orderbook.proofs.book.Book.file.Goals as goal
 
-pub invariant-of-self : goal.invariant-of-self
-invariant-of-self c =
+pub invariant_of-self : goal.invariant_of-self
+invariant_of-self c =
     let b = c.args.self.now in
-    let e = c.change.ensures.roll ∙ ap (λ i. does_at File i (roll_of b)) c.saturating-sub.ensures ∙ does_at_lem (sound b.kept) File c.args.number c.requires.there.0 c.requires.there.1 in
-    (b.long, (b.within, (∣ kept_off c.args.number (put StopFile) (kept b.kept) c.requires.there c.requires.off (alike_put StopFile _) refl e ∣₁, tt)))
+    let e = c.change.ensures.roll ∙ ap (λ i. does_at File i (roll_of b)) c.saturating_sub.ensures ∙ does_at_lem (sound b.kept) File c.args.number c.requires.there.0 c.requires.there.1 in
+    record { long = b.long; within = b.within; kept = ∣ kept_off c.args.number (put StopFile) (kept b.kept) c.requires.there c.requires.off (alike_put StopFile _) refl e ∣₁ }
 
 pub returns : goal.returns
 returns c =
     let b = c.args.self.now in
-    c.change.ensures.roll ∙ ap (λ i. does_at File i (roll_of b)) c.saturating-sub.ensures ∙ does_at_lem (sound b.kept) File c.args.number c.requires.there.0 c.requires.there.1
+    c.change.ensures.roll ∙ ap (λ i. does_at File i (roll_of b)) c.saturating_sub.ensures ∙ does_at_lem (sound b.kept) File c.args.number c.requires.there.0 c.requires.there.1

@@ -7,19 +7,17 @@ use Rattle.orderbook.proofs.Upkeep.{kept, sound}
 use Rattle.orderbook.proofs.Moving.{kept_strike_offer}
 use Rattle.orderbook.proofs.book.Book.strike_offer.Goals as goal
 
-pub invariant-of-self : goal.invariant-of-self
-invariant-of-self c =
+pub invariant_of-self : goal.invariant_of-self
+invariant_of-self c =
     let b = c.args.self.now in
     let d = c.retain-self in
-    let e = c.change.ensures.roll ∙ ap (λ i. does_at Cancel i (roll_of b)) c.saturating-sub.ensures ∙ cancel_at (sound b.kept) c.args.number c.requires.there.0 c.requires.there.1 in (
-      (omega arith, omega (arith, d.auto.table)),
-      (
-        (omega arith, omega (arith, d.ensures.within)),
-        (∣ kept_strike_offer (take b.offering b.offers) (take d.result d.new.table) c.args.number c.args.price (kept b.kept) c.requires.there c.requires.on c.requires.price e d.ensures.kept ∣₁, tt),
-      ),
-    )
+    let e = c.change.ensures.roll ∙ ap (λ i. does_at Cancel i (roll_of b)) c.saturating_sub.ensures ∙ cancel_at (sound b.kept) c.args.number c.requires.there.0 c.requires.there.1 in record {
+      long = (omega arith, omega (arith, d.auto.table));
+      within = (omega arith, omega (arith, d.ensures.within));
+      kept = ∣ kept_strike_offer (take b.offering b.offers) (take d.result d.new.table) c.args.number c.args.price (kept b.kept) c.requires.there c.requires.on c.requires.price e d.ensures.kept ∣₁;
+    }
 
 pub returns : goal.returns
 returns c =
     let b = c.args.self.now in
-    c.change.ensures.roll ∙ ap (λ i. does_at Cancel i (roll_of b)) c.saturating-sub.ensures ∙ cancel_at (sound b.kept) c.args.number c.requires.there.0 c.requires.there.1
+    c.change.ensures.roll ∙ ap (λ i. does_at Cancel i (roll_of b)) c.saturating_sub.ensures ∙ cancel_at (sound b.kept) c.args.number c.requires.there.0 c.requires.there.1

@@ -1,14 +1,14 @@
 use Rattle.std.proofs.Common.{sym}
-use Rattle.orderbook.proofs.Lookup.{look_some, there_at, off_at}
+use Rattle.orderbook.proofs.Lookup.{look_some, there_at, off_at, eq_off}
 use Rattle.orderbook.proofs.Upkeep.{sound}
 use Rattle.orderbook.proofs.book.Book.trade.Goals as goal
 
-pub take-offers-requires : goal.take-offers-requires
-take-offers-requires g c =
+pub take_offers-requires : goal.take_offers-requires
+take_offers-requires g c =
     let f = look_some (sound c.args.self.now.kept) c.args.number c.in-Some.order (sym c.in-Some.ensures) in
-    record { there = there_at f; off = off_at f c.if-eq.ensures }
+    record { there = there_at f; off = off_at f (eq_off c.in-Some.order.place c.if-eq.ensures) }
 
-pub take-bids-requires : goal.take-bids-requires
-take-bids-requires g c =
+pub take_bids-requires : goal.take_bids-requires
+take_bids-requires g c =
     let f = look_some (sound c.args.self.now.kept) c.args.number c.in-Some.order (sym c.in-Some.ensures) in
-    record { there = there_at f; off = off_at f c.if-eq.ensures }
+    record { there = there_at f; off = off_at f (eq_off c.in-Some.order.place c.if-eq.ensures) }
