@@ -1,5 +1,5 @@
 -- A stop is added to the stop file of a roll.
-use Rattle.std.proofs.Common.{◌≡◌, ℕ, suc, ◌+◌, ◌<◌, ◌≤◌, Bool, true, false, cond, ◌&&◌, eqb, ltb, List, [], ◌∷◌, ◌++◌, map, length, Ok, Err, Result, sym, refl, ap, ◌∙◌, subst, arith, MatchResult}
+use Rattle.std.proofs.Common.{◌≡◌, ℕ, suc, ◌+◌, ◌<◌, ◌≤◌, Bool, true, false, cond, eqb, ltb, List, [], ◌∷◌, ◌++◌, map, length, Ok, Err, Result, sym, refl, ap, ◌∙◌, subst, arith, MatchResult}
 use Rattle.std.proofs.lemmas.Bool.{and_from, lt-ltb, ne_eqb}
 use Rattle.market.specs.declared.words.Kind.{Kind}
 use Rattle.market.specs.declared.words.Kind.TheVariants.{Stop as StopKind}
@@ -10,7 +10,7 @@ use Rattle.stops.specs.declared.stop_file.NotAdded.{NotAdded}
 use Rattle.stops.specs.declared.stop_file.NotAdded.TheVariants.{NotAbove, Full}
 use Rattle.stops.specs.Stops.{above_all, adding, after_adding}
 use Rattle.replay.specs.Lists.{those, kept}
-use Rattle.replay.specs.Rolls.{is_filed, is_stop}
+use Rattle.replay.specs.Rolls.{is_filed}
 use Rattle.replay.specs.RollHolds.{Numbered}
 use Rattle.replay.specs.StopFile.{stop_of, file_of}
 use Rattle.trading.specs.Deeds.{with_stop, when_added}

@@ -1,5 +1,5 @@
 -- From a check and a move to what a call did.
-use Rattle.std.proofs.Common.{◌≡◌, ℕ, suc, ◌+◌, ◌*◌, ◌<◌, ◌≤◌, Bool, true, false, not, ◌&&◌, eqb, ltb, leb, List, [], ◌∷◌, ◌++◌, length, take, drop, Some, None, Ok, Err, Option, Result, sym, refl, ap, ◌∙◌, subst, arith, take-append-drop}
+use Rattle.std.proofs.Common.{◌≡◌, ℕ, suc, ◌+◌, ◌*◌, ◌<◌, ◌≤◌, Bool, true, false, not, ◌&&◌, eqb, ltb, leb, List, [], ◌∷◌, ◌++◌, length, take, drop, Some, None, Ok, Err, Result, sym, refl, ap, ◌∙◌, arith, take-append-drop}
 use Rattle.std.proofs.lemmas.List.{length-take-le}
 use Rattle.std.proofs.lemmas.Bool.{leb-false, ltb-false, eqb-false}
 use Rattle.std.proofs.lemmas.Bool.Decides.{nat_tests}
@@ -12,7 +12,7 @@ use Rattle.market.specs.Orders.{put}
 use Rattle.market.specs.declared.words.Stop.{Stop}
 use Rattle.market.specs.declared.words.TapeLine.{TapeLine}
 use Rattle.market.specs.Bounds.{is_price, is_shares}
-use Rattle.replay.specs.Days.{Day, Phase, Loading, Trading, Rule, Outcome, Call, LoadStop, Enter, FloorTrade, Resume, Answer, Refused}
+use Rattle.replay.specs.Days.{Day, Phase, Rule, Outcome, Call, Answer, Refused}
 use Rattle.replay.specs.Rolls.{is_stop, filed}
 use Rattle.replay.specs.Runs.{busy, start_place}
 use Rattle.replay.specs.Refusals.{bad_price, bad_shares, tape_short, stop_file_full, no_such_order, other_member, nothing_open, outside_quote, not_paused}

@@ -1,5 +1,5 @@
 -- A run leaves the stop file of the roll alone until it elects, and takes the first out of the line or pauses.
-use Rattle.std.proofs.Common.{◌≡◌, ℕ, zero, suc, ◌+◌, ◌-◌, ◌*◌, ◌<◌, ◌≤◌, Bool, true, false, cond, not, ◌&&◌, eqb, ◌⊎◌, List, [], ◌∷◌, ◌++◌, length, Some, None, Option, sym, refl, ap, ◌∙◌, subst, inl, inr, ⊎_elim, arith}
+use Rattle.std.proofs.Common.{◌≡◌, ℕ, zero, suc, ◌-◌, ◌<◌, ◌≤◌, Bool, true, false, cond, not, eqb, ◌⊎◌, List, [], ◌∷◌, length, Some, None, Option, sym, refl, ap, ◌∙◌, subst, arith}
 use mathlib.Core.Logic.{∥∥₁_elim}
 use base.Stored.{Coded-set, coded_bool}
 use Rattle.std.specs.List.{AllByRecursion}
@@ -20,18 +20,18 @@ use Rattle.replay.specs.Days.{Day, Phase, Rule}
 use Rattle.replay.specs.Rolls.{is_filed, look, alter, left}
 use Rattle.replay.specs.Book.{ahead, row, is_contra}
 use Rattle.replay.specs.Moves.{deal, size, trade, leave, withdraw, rest, pause, centre}
-use Rattle.replay.specs.Runs.{first_price, print_at, residual, settle_of, settle, elect_at, centre_if, run, run_of}
+use Rattle.replay.specs.Runs.{first_price, print_at, residual, settle_of, settle, elect_at, centre_if, run}
 use Rattle.replay.specs.StopFile.{file_of}
 use Rattle.replay.proofs.Rolls.{look_same, look_deal}
 use Rattle.replay.proofs.Runs.{look_number}
 use Rattle.replay.proofs.Turns.{print_line}
-use Rattle.replay.proofs.Need.{Settled, settle_settled}
+use Rattle.replay.proofs.Need.{settle_settled}
 use Rattle.replay.proofs.FileOfRoll.{file_alter, file_deal}
 use Rattle.trading.specs.declared.board.Board.{Board}
 use Rattle.trading.specs.Waiting.{first_of}
 use Rattle.trading.specs.Ruling.{is_loose, loose_of, Waits, Ruled}
 use Rattle.trading.specs.Boards.{orders_of, waiting_of}
-use Rattle.trading.specs.Shows.{Shows, Runner, second_price, printed, Printed}
+use Rattle.trading.specs.Shows.{Shows, Runner, second_price, printed}
 
 -- the first in line ------------------------------------------------------------------------------------------------------
 first_waits : (P : ℕ → Type 0) (l : List ℕ) (n : ℕ) → first_of l ≡ Some n → AllByRecursion P l → P n

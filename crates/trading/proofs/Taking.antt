@@ -1,5 +1,5 @@
 -- The loop that takes from the stop file until nothing is elected.
-use Rattle.std.proofs.Common.{◌≡◌, ℕ, suc, ◌+◌, ◌*◌, ◌<◌, ◌≤◌, Bool, true, false, cond, List, [], ◌∷◌, ◌++◌, length, Some, None, sym, refl, ap, ◌∙◌, subst, arith}
+use Rattle.std.proofs.Common.{◌≡◌, ℕ, suc, ◌+◌, ◌≤◌, Bool, true, false, cond, List, [], ◌∷◌, ◌++◌, length, Some, None, sym, refl, ap, ◌∙◌, subst, arith}
 use mathlib.Core.Logic.{∥∥₁_elim}
 use base.Stored.{Coded-set, coded_ℕ}
 use Rattle.std.proofs.lemmas.Bool.{false≢true}
@@ -20,7 +20,7 @@ use Rattle.trading.specs.declared.board.Board.{Board}
 use Rattle.trading.specs.Ruling.{Ruled}
 use Rattle.trading.specs.Boards.{orders_of, waiting_of}
 use Rattle.trading.specs.Shows.{Shows, Beside, filed_of, may_print}
-use Rattle.trading.proofs.Electing.{Called, one_called, Done, none_called, elect_one, elect_more, elect_none, one_fewer}
+use Rattle.trading.proofs.Electing.{Called, one_called, none_called, elect_one, elect_more, elect_none, one_fewer}
 
 -- the orders of a board are numbered in turn
 numbered_prop : (k : ℕ) (os : List Order) → IsProp (Numbered k os)

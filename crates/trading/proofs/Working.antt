@@ -1,12 +1,12 @@
 -- The loop that works off the line.
-use Rattle.std.proofs.Common.{◌≡◌, ℕ, zero, suc, ◌+◌, ◌<◌, ◌≤◌, Bool, true, false, cond, ◌⊎◌, List, [], ◌∷◌, length, Some, None, Option, sym, refl, ap, ◌∙◌, subst, inl, inr, ⊎_elim, arith}
+use Rattle.std.proofs.Common.{◌≡◌, ℕ, zero, suc, ◌<◌, ◌≤◌, Bool, true, false, cond, ◌⊎◌, List, [], ◌∷◌, length, Some, None, Option, sym, refl, ap, ◌∙◌, subst, inl, inr, ⊎_elim, arith}
 use Rattle.std.proofs.lemmas.Bool.{false≢true}
 use Rattle.market.specs.declared.words.Stop.{Stop}
 use Rattle.market.specs.declared.words.Order.{Order}
 use Rattle.market.specs.declared.words.TapeLine.{TapeLine}
 use Rattle.replay.specs.Days.{Day, Phase, Rule}
-use Rattle.replay.specs.Rolls.{look, filed}
-use Rattle.replay.specs.Runs.{run, run_of, turn_of, turn, turns, busy, work}
+use Rattle.replay.specs.Rolls.{look}
+use Rattle.replay.specs.Runs.{run_of, turn_of, turn, turns, busy, work}
 use Rattle.replay.specs.StopFile.{file_of}
 use Rattle.replay.proofs.Runs.{look_number}
 use Rattle.replay.proofs.Turns.{Less, run_less, leave_less, empty}

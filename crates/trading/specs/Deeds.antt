@@ -1,5 +1,5 @@
 -- What a call did, by the definitions: one statement for all calls. Assumes nothing.
-use Rattle.std.specs.Prelude.{◌≡◌, ℕ, ◌+◌, ◌*◌, List, [], ◌∷◌, ◌++◌, length, drop, Some, None, Ok, Err, Option, Result}
+use Rattle.std.specs.Prelude.{◌≡◌, ℕ, List, [], ◌∷◌, ◌++◌, length, drop, Some, None, Ok, Err, Option, Result}
 use Rattle.market.specs.declared.words.Kind.{Kind}
 use Rattle.market.specs.declared.words.Kind.TheVariants.{Limit, Market, ImmediateOrCancel, Stop as StopKind}
 use Rattle.market.specs.declared.words.Order.{Order}
@@ -9,14 +9,14 @@ use Rattle.market.specs.declared.refusal.Refusal.{Refusal}
 use Rattle.market.specs.declared.refusal.Refusal.TheVariants.{StopFileFull}
 use Rattle.market.specs.Refusals.{number_of}
 use Rattle.orderbook.specs.declared.ticket.Ticket.{Ticket}
-use Rattle.replay.specs.Days.{Day, Phase, Rule, Call, Enter, Answer, Done, Number, Lines, Entered, Refused}
+use Rattle.replay.specs.Days.{Day, Rule, Call, Enter, Answer, Done, Number, Lines, Entered, Refused}
 use Rattle.replay.specs.Calls.{step}
 use Rattle.replay.specs.History.{bare}
 use Rattle.replay.specs.StopFile.{stop_of, file_of}
 use Rattle.stops.specs.declared.stop_file.NotAdded.{NotAdded}
 use Rattle.trading.specs.declared.board.Board.{Board}
 use Rattle.trading.specs.declared.answer.Receipt.{Receipt}
-use Rattle.trading.specs.Boards.{orders_of, day_of}
+use Rattle.trading.specs.Boards.{orders_of}
 
 -- the number of a refusal, if there is one
 abbrev pub refused_by : {A : Type 0} → Result A Refusal → Option ℕ

@@ -1,4 +1,4 @@
-use Rattle.std.proofs.Common.{◌≡◌, suc, length, sym, refl, ap, ◌∙◌, subst, arith}
+use Rattle.std.proofs.Common.{suc, length, ap, ◌∙◌, arith}
 use Rattle.market.specs.declared.words.Stop.{Stop}
 use Rattle.orderbook.specs.Trades.{next}
 use Rattle.replay.specs.Rolls.{is_stop}
@@ -17,11 +17,11 @@ returns-in-Stop g c =
     let o = next t os in
     let ss = g.F.StopFile.stops c.args.file.now in
     let room = g.F.StopFile.room c.args.file.now in
-    let s = c.next-stop.result in
+    let s = c.next_stop.result in
     record {
-      listed = listed t.kind o ss (g.F.StopFile.stops c.add-stop.new.file) s (adding room s ss) c.add-stop.result c.in-Stop.is c.next-stop.ensures c.add-stop.ensures.value c.add-stop.ensures.listed;
+      listed = listed t.kind o ss (g.F.StopFile.stops c.add_stop.new.file) s (adding room s ss) c.add_stop.result c.in-Stop.is c.next_stop.ensures c.add_stop.ensures.value c.add_stop.ensures.listed;
       added = λ fl fits.
-          added (suc (length os)) room ss s c.add-stop.result (ap (λ (x : Stop). x.number) c.next-stop.ensures ∙ next_number t os)
-          (ap (above_all (suc (length os))) fl ∙ file_above (suc (length os)) 1 os (numbered_of b.ruled) (omega arith)) (fits (ap is_stop c.in-Stop.is)) c.add-stop.ensures.value;
-      keeps = c.add-stop.ensures.keeps;
+          added (suc (length os)) room ss s c.add_stop.result (ap (λ (x : Stop). x.number) c.next_stop.ensures ∙ next_number t os)
+          (ap (above_all (suc (length os))) fl ∙ file_above (suc (length os)) 1 os (numbered_of b.ruled) (omega arith)) (fits (ap is_stop c.in-Stop.is)) c.add_stop.ensures.value;
+      keeps = c.add_stop.ensures.keeps;
     }

@@ -13,10 +13,10 @@ join-requires c =
     let at : c.in-Some.order.place ≡ StopFile = search rules in
     room_in c.args.number (filed_is (sym c.get.ensures ∙ c.in-Some.is) at) (ruled b.ruled)
 
-pub invariant-of-self : goal.invariant-of-self
-invariant-of-self c =
+pub invariant_of-self : goal.invariant_of-self
+invariant_of-self c =
     let b = c.args.self.now in
     let n = c.args.number in
     let at : c.in-Some.order.place ≡ StopFile = search rules in
     let stop : filed_of (look n (roll_of b.book)) ≡ true = filed_is (sym c.get.ensures ∙ c.in-Some.is) at in
-    (∣ ruled_in n (chosen _ _ _ c.put.ensures (filed_off (look n (roll_of b.book)) stop)) stop c.join.ensures.line c.join.ensures.joined (ruled b.ruled) ∣₁, tt)
+    record { ruled = ∣ ruled_in n (chosen _ _ _ c.put.ensures (filed_off (look n (roll_of b.book)) stop)) stop c.join.ensures.line c.join.ensures.joined (ruled b.ruled) ∣₁ }

@@ -2,7 +2,7 @@ use Rattle.std.proofs.Common.{sym, ap, ◌∙◌}
 use Rattle.trading.proofs.Taking.{numbered_of}
 use Rattle.trading.proofs.Removing.{cancel_filed, cancel_other}
 use Rattle.trading.proofs.board.Board.cancel.Goals as goal
-use Rattle.trading.proofs.board.Board.cancel.Goals.{then-is-filed, else-is-filed}
+use Rattle.trading.proofs.board.Board.cancel.Goals.{then-is_filed, else-is_filed}
 
 pub returns : goal.returns
 returns g c =
@@ -11,15 +11,15 @@ returns g c =
     let F = g.F.StopFile in
     record {
       lines = c.withdraw.ensures.used;
-      keeps = elim c.if-is-filed.branch [
-        | then-is-filed w ↦ ap F.room w.file-is ∙ w.remove.ensures.keeps
-        | else-is-filed w ↦ ap F.room w.file-is
+      keeps = elim c.if-is_filed.branch [
+        | then-is_filed w ↦ ap F.room w.file-is ∙ w.remove.ensures.keeps
+        | else-is_filed w ↦ ap F.room w.file-is
       ];
       day = λ f d s fl. (
         c.withdraw.ensures.day f d s,
-        elim c.if-is-filed.branch [
-          | then-is-filed w ↦ cancel_filed n d (numbered_of b.ruled) s.roll (ap F.stops w.file-is ∙ w.remove.ensures.listed) fl
-          | else-is-filed w ↦ cancel_other n d (sym c.is-filed.ensures ∙ w.if-is-filed.false) s.roll (ap F.stops w.file-is) fl
+        elim c.if-is_filed.branch [
+          | then-is_filed w ↦ cancel_filed n d (numbered_of b.ruled) s.roll (ap F.stops w.file-is ∙ w.remove.ensures.listed) fl
+          | else-is_filed w ↦ cancel_other n d (sym c.is_filed.ensures ∙ w.if-is_filed.false) s.roll (ap F.stops w.file-is) fl
         ],
       );
       others = c.withdraw.ensures.others;

@@ -1,4 +1,4 @@
-use Rattle.std.proofs.Common.{◌≡◌, None, sym, ap, ◌∙◌, subst}
+use Rattle.std.proofs.Common.{None, sym, ap, ◌∙◌, subst}
 use Rattle.replay.specs.Days.{Day}
 use Rattle.replay.specs.Runs.{centre_if}
 use Rattle.trading.specs.Shows.{Shows}

@@ -12,10 +12,10 @@ use Rattle.trading.specs.Deeds.{refused_by}
 use Rattle.trading.proofs.Refusing.{refused_more}
 use Rattle.trading.proofs.board.Board.check_limit.Goals as goal
 
-pub returns-in-err-check-order : goal.returns-in-err-check-order
-returns-in-err-check-order c =
+pub returns-in_err-check_order : goal.returns-in_err-check_order
+returns-in_err-check_order c =
     let t = c.args.ticket.now in
     let b = c.args.self.now in
-    let p = err_from_is_err_and c.from-residual.result c.from-residual.ensures.1 in
+    let p = err_from_is_err_and c.from_residual.result c.from_residual.ensures.1 in
     ap refused_by p.1 ∙ ap (λ e. Some (number_of e)) p.2
-    ∙ refused_more (order_checks t.kind t.member t.price t.shares (day_of Trading b)) (check (any (is_contra (next t (orders_of b))) (orders_of b)) locks_book ∷ []) _ c.in-err-check-order.ensures
+    ∙ refused_more (order_checks t.kind t.member t.price t.shares (day_of Trading b)) (check (any (is_contra (next t (orders_of b))) (orders_of b)) locks_book ∷ []) _ c.in_err-check_order.ensures

@@ -6,7 +6,7 @@ use Rattle.trading.proofs.board.Board.floor_trade.Goals as goal
 pub returns : goal.returns
 unfolding floored
 returns g c =
-    let p = c.print-floor-used in
+    let p = c.print_floor-used in
     let e = c.elect-used in
     let w = c.work in
     record {

@@ -1,5 +1,4 @@
 use Rattle.std.proofs.Common.{take, refl, subst, arith}
-use Rattle.replay.specs.Moves.{pause}
 use Rattle.trading.specs.Shows.{Shows}
 use Rattle.trading.proofs.Residuals.{held, held_at_once}
 use Rattle.trading.proofs.board.Board.hold.Goals as goal

@@ -3,10 +3,10 @@ use Rattle.replay.specs.Moves.{leave, without}
 use Rattle.trading.proofs.Ruled.{ruled, ruled_left}
 use Rattle.trading.proofs.board.Board.leave.Goals as goal
 
-pub invariant-of-self : goal.invariant-of-self
-invariant-of-self c =
+pub invariant_of-self : goal.invariant_of-self
+invariant_of-self c =
     let r = ruled c.args.self.now.ruled in
-    (∣ ruled_left c.args.number (c.leave.ensures.line r.once) c.leave.ensures.joined r ∣₁, tt)
+    record { ruled = ∣ ruled_left c.args.number (c.leave.ensures.line r.once) c.leave.ensures.joined r ∣₁ }
 
 pub returns : goal.returns
 unfolding leave

@@ -8,11 +8,11 @@ use Rattle.trading.proofs.Tape.{wrote, print_same}
 use Rattle.trading.proofs.Trades.{traded_is, size_is, runner_stays}
 use Rattle.trading.proofs.board.Board.print.Goals as goal
 
-pub invariant-of-self : goal.invariant-of-self
-invariant-of-self g c =
+pub invariant_of-self : goal.invariant_of-self
+invariant_of-self g c =
     let o = c.args.order.now in
     let gifts = g.R.ShareOut.gifts c.args.rule.now in
-    (∣ ruled_traded gifts o.number (opposite o.side) c.args.price (traded_is gifts c.args.price c.trade-shares.ensures.roll c.requires.runner) (ruled c.args.self.now.ruled) ∣₁, tt)
+    record { ruled = ∣ ruled_traded gifts o.number (opposite o.side) c.args.price (traded_is gifts c.args.price c.trade-shares.ensures.roll c.requires.runner) (ruled c.args.self.now.ruled) ∣₁ }
 
 pub returns : goal.returns
 unfolding trade
@@ -36,7 +36,7 @@ returns g c =
         phase = s.phase;
         tape = wrote c.args.tape.now c.args.used c.requires.room
             (print_same n p (size_is p c.trade-shares.ensures.shares c.requires.runner ∙ ap (size n side p) s.roll)
-            (ap (λ (x : ℕ × ℕ). x.0) c.shown-range-low.ensures ∙ ap low_of s.range) (ap (λ (x : ℕ × ℕ). x.1) c.shown-range-low.ensures ∙ ap high_of s.range)) s.tape;
+            (ap (λ (x : ℕ × ℕ). x.0) c.shown_range-low.ensures ∙ ap low_of s.range) (ap (λ (x : ℕ × ℕ). x.1) c.shown_range-low.ensures ∙ ap high_of s.range)) s.tape;
       };
       runner = runner_stays gifts side p done c.requires.runner;
       others = drop-set-lt (c.args.used + 1) c.args.tape.now c.args.used _ (omega arith);

@@ -7,10 +7,10 @@ use Rattle.trading.proofs.Ruled.{ruled, ruled_alter}
 use Rattle.trading.proofs.Trades.{chosen}
 use Rattle.trading.proofs.board.Board.rest.Goals as goal
 
-pub invariant-of-self : goal.invariant-of-self
-invariant-of-self c =
+pub invariant_of-self : goal.invariant_of-self
+invariant_of-self c =
     let r = ruled c.args.self.now.ruled in
-    (∣ ruled_alter c.args.number (put Book) (λ o. refl) (λ o. omega arith) (chosen _ _ _ c.put.ensures c.requires) (c.leave.ensures.line r.once) c.leave.ensures.joined r ∣₁, tt)
+    record { ruled = ∣ ruled_alter c.args.number (put Book) (λ o. refl) (λ o. omega arith) (chosen _ _ _ c.put.ensures c.requires) (c.leave.ensures.line r.once) c.leave.ensures.joined r ∣₁ }
 
 pub returns : goal.returns
 unfolding rest

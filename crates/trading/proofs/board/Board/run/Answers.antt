@@ -1,14 +1,14 @@
-use Rattle.std.proofs.Common.{◌≡◌, ℕ, ◌+◌, ◌<◌, ◌≤◌, true, ◌⊎◌, length, take, drop, Some, sym, ap, ◌∙◌, subst, inl, inr, ⊎_elim, arith}
+use Rattle.std.proofs.Common.{◌≡◌, ◌<◌, true, ◌⊎◌, length, take, Some, sym, ap, ◌∙◌, subst, inl, inr, ⊎_elim, arith}
 use Rattle.std.proofs.lemmas.Bool.{false≢true}
 use Rattle.market.specs.declared.words.Order.{Order}
 use Rattle.replay.specs.Days.{Day, Trading}
 use Rattle.replay.specs.Rolls.{look}
-use Rattle.replay.specs.Runs.{settle, elect_at, centre_if, run, run_of}
+use Rattle.replay.specs.Runs.{settle, elect_at, centre_if, run_of}
 use Rattle.replay.specs.StopFile.{file_of}
 use Rattle.replay.proofs.Runs.{look_number}
 use Rattle.trading.specs.Boards.{orders_of, waiting_of}
 use Rattle.trading.specs.Ruling.{loose_of, Waits}
-use Rattle.trading.specs.Shows.{Shows, Runner, Printed, printed, may_print}
+use Rattle.trading.specs.Shows.{Shows, Printed, printed}
 use Rattle.trading.proofs.Tape.{drop_later}
 use Rattle.trading.proofs.Running.{waits_of, first_long, runs, settled_file, settled_out, centre_file, centre_line, centre_paused, run_is, day_with, shown}
 use Rattle.trading.proofs.board.Board.run.Goals as goal
@@ -28,17 +28,17 @@ settle-used-requires g c =
     let long = first_long (waiting_of b) c.args.number c.requires.first in
     record { runner = c.prints-prints.ensures.runner; room = omega (arith, c.requires.room, long, c.prints-prints.ensures.used.1, c.prints-prints.auto.tape) }
 
-pub elect-at-used-requires : goal.elect-at-used-requires
-elect-at-used-requires g c =
+pub elect_at-used-requires : goal.elect_at-used-requires
+elect_at-used-requires g c =
     let b = c.args.self.now in
     let long = first_long (waiting_of b) c.args.number c.requires.first in
     omega (arith, c.requires.room, long, c.prints-prints.ensures.used.1, c.settle-used.ensures.used.1, c.prints-prints.auto.tape, c.settle-used.auto.tape)
 
 -- the first in line is on the roll
-pub returns-in-default : goal.returns-in-default
-returns-in-default g c =
+pub returns-in_default : goal.returns-in_default
+returns-in_default g c =
     let b = c.args.self.now in
-    absurd (false≢true (ap loose_of c.in-default.ensures ∙ waits_of b.ruled c.requires.first))
+    absurd (false≢true (ap loose_of c.in_default.ensures ∙ waits_of b.ruled c.requires.first))
 
 pub returns : goal.returns
 returns g c =
@@ -53,9 +53,9 @@ returns g c =
     let long = first_long (waiting_of b) n c.requires.first in
     let pr = c.prints-prints in
     let st = c.settle-used in
-    let e₁ = c.elect-at-used in
-    let e₂ = c.elect-at-used-2 in
-    let ce = c.centre-first in
+    let e₁ = c.elect_at-used in
+    let e₂ = c.elect_at-used-2 in
+    let ce = c.centre_first in
     -- the day that the board shows by itself, for what holds of line and pause
     let d₀ : Day = day_with Trading b ls in
     let s₂ : Shows Trading st.new.self (take st.result st.new.tape) (settle r (printed gifts r d₀)) = st.ensures.day Trading (printed gifts r d₀) (pr.ensures.day Trading d₀ (shown Trading b ls)).shows in

@@ -7,16 +7,16 @@ use Rattle.replay.specs.Book.{best, prices}
 use Rattle.trading.proofs.Prices.{clean_none, clean_is, next_none, next_some}
 use Rattle.trading.proofs.board.Board.second_price.Goals as goal
 
-pub returns-in-default : goal.returns-in-default
-returns-in-default c = λ f ls d s.
+pub returns-in_default : goal.returns-in_default
+returns-in_default c = λ f ls d s.
     let b = c.args.self.now in
     let r = c.args.order.now in
     next_none c.args.first r d
-    (sym (clean_is r d s.range s.roll) ∙ clean_none r b.range (roll_of b.book) (c.in-default.ensures.price ∙ ap (λ x. best x (prices (rests_on x) (roll_of b.book))) c.opposite.ensures))
+    (sym (clean_is r d s.range s.roll) ∙ clean_none r b.range (roll_of b.book) (c.in_default.ensures.price ∙ ap (λ x. best x (prices (rests_on x) (roll_of b.book))) c.opposite.ensures))
 
 pub returns : goal.returns
 returns c = λ f ls d s.
     let r = c.args.order.now in
-    let some : c.args.first ≡ None → ⊥ = λ e. false≢true (sym (ap is_some e) ∙ c.is-none.ensures ∙ ap not c.if-is-none.false) in
-    c.clean-up-price.ensures ∙ clean_is r d s.range s.roll
+    let some : c.args.first ≡ None → ⊥ = λ e. false≢true (sym (ap is_some e) ∙ c.is_none.ensures ∙ ap not c.if-is_none.false) in
+    c.clean_up_price.ensures ∙ clean_is r d s.range s.roll
     ∙ next_some c.args.first r d c.left.result some (c.left.ensures ∙ ap (left r.number) s.roll) c.if-left-eq0.false

@@ -29,7 +29,7 @@ returns-then-meets c =
 pub returns : goal.returns
 returns c =
     let r = c.args.order.now in
-    let h = c.let-go in
+    let h = c.let_go in
     record {
       used = h.ensures.used;
       day = λ f d s. subst (λ x. Shows f h.new.self (take h.result h.new.tape) x)

@@ -8,10 +8,10 @@ use Rattle.trading.proofs.Ruled.{ruled, ruled_alter}
 use Rattle.trading.proofs.Tape.{wrote}
 use Rattle.trading.proofs.board.Board.withdraw.Goals as goal
 
-pub invariant-of-self : goal.invariant-of-self
-invariant-of-self c =
+pub invariant_of-self : goal.invariant_of-self
+invariant_of-self c =
     let r = ruled c.args.self.now.ruled in
-    (∣ ruled_alter c.args.number cancel (λ o. refl) (λ o. omega arith) c.cancel-shares.ensures.roll (c.leave.ensures.line r.once) c.leave.ensures.joined r ∣₁, tt)
+    record { ruled = ∣ ruled_alter c.args.number cancel (λ o. refl) (λ o. omega arith) c.cancel-shares.ensures.roll (c.leave.ensures.line r.once) c.leave.ensures.joined r ∣₁ }
 
 pub returns : goal.returns
 unfolding withdraw

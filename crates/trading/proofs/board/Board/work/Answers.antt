@@ -1,4 +1,4 @@
-use Rattle.std.proofs.Common.{◌≡◌, ◌+◌, ◌≤◌, true, false, ◌⊎◌, length, take, drop, sym, refl, ap, ◌∙◌, inl, inr, ⊎_elim, arith}
+use Rattle.std.proofs.Common.{◌+◌, ◌≤◌, length, take, sym, refl, ◌∙◌, inl, inr, ⊎_elim, arith}
 use Rattle.std.proofs.lemmas.Bool.{false≢true}
 use Rattle.trading.specs.Boards.{waiting_of}
 use Rattle.trading.specs.Shows.{may_print}
@@ -46,6 +46,6 @@ pub returns : goal.returns
 returns g c = record {
   used = c.loop-number.invariant.1;
   keeps = c.loop-number.invariant.4;
-  day = working_done (g.R.ShareOut.gifts c.args.rule.now) c.loop-number.invariant.0 c.in-default.ensures;
+  day = working_done (g.R.ShareOut.gifts c.args.rule.now) c.loop-number.invariant.0 c.in_default.ensures;
   others = c.loop-number.invariant.3;
 }

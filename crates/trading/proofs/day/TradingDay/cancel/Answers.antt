@@ -1,4 +1,4 @@
-use Rattle.std.proofs.Common.{◌≡◌, ℕ, ◌≤◌, not, eqb, [], length, take, sym, refl, ap, ◌∙◌, arith}
+use Rattle.std.proofs.Common.{ℕ, ◌≤◌, not, eqb, [], length, sym, refl, ap, arith}
 use Rattle.std.proofs.lemmas.Result.{err_from_is_err_and}
 use Rattle.replay.specs.Days.{Trading, CancelOrder, Lines}
 use Rattle.replay.specs.Rolls.{look, absent, member_of, open_of}
@@ -8,13 +8,13 @@ use Rattle.trading.proofs.Doing.{did_refused, did_done, lines_are, counted_lines
 use Rattle.trading.proofs.Running.{shown}
 use Rattle.trading.proofs.day.TradingDay.cancel.Goals as goal
 
-pub returns-in-err-check-cancel : goal.returns-in-err-check-cancel
+pub returns-in_err-check_cancel : goal.returns-in_err-check_cancel
 unfolding checks
-returns-in-err-check-cancel g c =
+returns-in_err-check_cancel g c =
     let b = c.args.self.now.board in
-    let p = err_from_is_err_and c.from-residual.result c.from-residual.ensures.1 in
+    let p = err_from_is_err_and c.from_residual.result c.from_residual.ensures.1 in
     rw (p.1, p.2) (record {
-      did = λ fl. did_refused (g.R.ShareOut.gifts c.args.self.now.rule) (g.F.StopFile.room c.args.self.now.file) b (CancelOrder c.args.member c.args.number (length c.args.tape.now)) (sym c.in-err-check-cancel.ensures) refl fl refl refl refl;
+      did = λ fl. did_refused (g.R.ShareOut.gifts c.args.self.now.rule) (g.F.StopFile.room c.args.self.now.file) b (CancelOrder c.args.member c.args.number (length c.args.tape.now)) (sym c.in_err-check_cancel.ensures) refl fl refl refl refl;
       refused = record { board = refl; stops = refl; lines = refl };
       keeps = (refl, refl);
     })
@@ -25,11 +25,11 @@ returns g c =
     let b = c.args.self.now.board in
     let k = c.cancel.result in
     let new = c.cancel.new.tape in
-    let long : k ≤ length new = omega (arith, c.cancel.ensures.lines, c.cancel.auto.tape, cancel_passed (absent (look c.args.number (orders_of b))) (not (eqb (member_of (look c.args.number (orders_of b))) c.args.member)) (eqb (open_of (look c.args.number (orders_of b))) 0) (length c.args.tape.now) c.in-ok-check-cancel.ensures) in
+    let long : k ≤ length new = omega (arith, c.cancel.ensures.lines, c.cancel.auto.tape, cancel_passed (absent (look c.args.number (orders_of b))) (not (eqb (member_of (look c.args.number (orders_of b))) c.args.member)) (eqb (open_of (look c.args.number (orders_of b))) 0) (length c.args.tape.now) c.in_ok-check_cancel.ensures) in
     record {
       did = λ fl.
           let s = c.cancel.ensures.day Trading (day_of Trading b) (shown Trading b []) fl in
-          did_done (g.R.ShareOut.gifts c.args.self.now.rule) (g.F.StopFile.room c.args.self.now.file) b (CancelOrder c.args.member c.args.number (length c.args.tape.now)) (sym c.in-ok-check-cancel.ensures)
+          did_done (g.R.ShareOut.gifts c.args.self.now.rule) (g.F.StopFile.room c.args.self.now.file) b (CancelOrder c.args.member c.args.number (length c.args.tape.now)) (sym c.in_ok-check_cancel.ensures)
           (ap (λ (n : ℕ). Lines n) (counted_lines k new long s.0.tape)) s.0 s.1 (lines_are k c.args.tape.now new long c.cancel.ensures.others);
       refused = tt;
       keeps = (c.cancel.ensures.keeps, refl);

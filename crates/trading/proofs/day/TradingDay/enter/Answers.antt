@@ -1,4 +1,4 @@
-use Rattle.std.proofs.Common.{◌≡◌, ℕ, ◌+◌, ◌*◌, ◌≤◌, ◌&&◌, ltb, leb, [], ◌∷◌, length, take, sym, refl, ap, ◌∙◌, subst, arith}
+use Rattle.std.proofs.Common.{◌+◌, ◌*◌, ◌≤◌, ◌&&◌, ltb, leb, [], ◌∷◌, length, sym, refl, ap, ◌∙◌, arith}
 use Rattle.std.proofs.lemmas.Result.{err_from_is_err_and}
 use Rattle.orderbook.specs.Trades.{next}
 use Rattle.replay.specs.Days.{Trading, Entered}
@@ -14,40 +14,40 @@ use Rattle.trading.proofs.Doing.{did_refused, did_done, lines_are, counted_lines
 use Rattle.trading.proofs.Running.{shown}
 use Rattle.trading.proofs.day.TradingDay.enter.Goals as goal
 
-pub returns-in-err-check-enter : goal.returns-in-err-check-enter
+pub returns-in_err-check_enter : goal.returns-in_err-check_enter
 unfolding checks
-returns-in-err-check-enter g c =
+returns-in_err-check_enter g c =
     let b = c.args.self.now.board in
     let t = c.args.ticket in
-    let p = err_from_is_err_and c.from-residual.result c.from-residual.ensures.1 in
+    let p = err_from_is_err_and c.from_residual.result c.from_residual.ensures.1 in
     let cs = order_checks t.kind t.member t.price t.shares (day_of Trading b) in
     rw (p.1, p.2) (record {
       did = λ fl. did_refused (g.R.ShareOut.gifts c.args.self.now.rule) (g.F.StopFile.room c.args.self.now.file) b (entering t (length c.args.tape.now))
-          (sym (c.in-err-check-enter.ensures ∙ checks_enter b fl c.count.ensures Trading (g.F.StopFile.room c.args.self.now.file) c.capacity.ensures (length c.args.tape.now) cs t.kind)) refl fl refl refl refl;
+          (sym (c.in_err-check_enter.ensures ∙ checks_enter b fl c.count.ensures Trading (g.F.StopFile.room c.args.self.now.file) c.capacity.ensures (length c.args.tape.now) cs t.kind)) refl fl refl refl refl;
       refused = record { board = refl; stops = refl; lines = refl };
       keeps = (refl, refl);
     })
 
-pub returns-in-err-file-stop : goal.returns-in-err-file-stop
-returns-in-err-file-stop g c =
+pub returns-in_err-file_stop : goal.returns-in_err-file_stop
+returns-in_err-file_stop g c =
     let b = c.args.self.now.board in
     let t = c.args.ticket in
-    let p = err_from_is_err_and c.from-residual-in-err-file-stop.result c.from-residual-in-err-file-stop.ensures.1 in
+    let p = err_from_is_err_and c.from_residual-in_err-file_stop.result c.from_residual-in_err-file_stop.ensures.1 in
     rw (p.1, p.2) (record {
-      did = λ fl. absurd (stop_added t.kind t.member t.price t.shares (day_of Trading b) (check (ltb (length c.args.tape.now) (4 * (length (waiting_of b) + c.count.result + 1))) tape_short ∷ []) c.in-ok-check-enter.ensures c.count.ensures c.capacity.ensures c.in-err-file-stop.was (c.file-stop.ensures.added fl));
-      refused = record { board = refl; stops = c.in-err-file-stop.ensures.listed; lines = refl };
-      keeps = (c.file-stop.ensures.keeps, refl);
+      did = λ fl. absurd (stop_added t.kind t.member t.price t.shares (day_of Trading b) (check (ltb (length c.args.tape.now) (4 * (length (waiting_of b) + c.count.result + 1))) tape_short ∷ []) c.in_ok-check_enter.ensures c.count.ensures c.capacity.ensures c.in_err-file_stop.was (c.file_stop.ensures.added fl));
+      refused = record { board = refl; stops = c.in_err-file_stop.ensures.listed; lines = refl };
+      keeps = (c.file_stop.ensures.keeps, refl);
     })
 
 pub enter-requires : goal.enter-requires
 enter-requires g c =
     let b = c.args.self.now.board in
     let t = c.args.ticket in
-    let passed = enter_passed t.kind t.member t.price t.shares (day_of Trading b) (is_stop t.kind && leb c.capacity.result c.count.result) (ltb (length c.args.tape.now) (4 * (length (waiting_of b) + c.count.result + 1))) c.in-ok-check-enter.ensures in
+    let passed = enter_passed t.kind t.member t.price t.shares (day_of Trading b) (is_stop t.kind && leb c.capacity.result c.count.result) (ltb (length c.args.tape.now) (4 * (length (waiting_of b) + c.count.result + 1))) c.in_ok-check_enter.ensures in
     record {
       room = passed.room;
       shares = passed.shares;
-      lines = lines_enter t.kind (next t (orders_of b)) (g.F.StopFile.stops c.args.self.now.file) (g.F.StopFile.stops c.file-stop.new.file) (length (waiting_of b)) (length c.args.tape.now) c.in-ok-file-stop.ensures.listed
+      lines = lines_enter t.kind (next t (orders_of b)) (g.F.StopFile.stops c.args.self.now.file) (g.F.StopFile.stops c.file_stop.new.file) (length (waiting_of b)) (length c.args.tape.now) c.in_ok-file_stop.ensures.listed
           (ap (λ n. ltb (length c.args.tape.now) (4 * (length (waiting_of b) + n + 1))) (sym c.count.ensures) ∙ passed.lines);
     }
 
@@ -63,10 +63,10 @@ returns g c =
     record {
       did = λ fl.
           let s = c.enter.ensures.day Trading (day_of Trading b) (shown Trading b [])
-          (filed_in t.kind (next t (orders_of b)) (any (is_contra (next t (orders_of b))) (orders_of b)) (orders_of b) (g.F.StopFile.stops c.args.self.now.file) _ fl c.in-ok-file-stop.ensures.listed) in
+          (filed_in t.kind (next t (orders_of b)) (any (is_contra (next t (orders_of b))) (orders_of b)) (orders_of b) (g.F.StopFile.stops c.args.self.now.file) _ fl c.in_ok-file_stop.ensures.listed) in
           did_done (g.R.ShareOut.gifts c.args.self.now.rule) (g.F.StopFile.room c.args.self.now.file) b (entering t (length c.args.tape.now))
-          (sym (c.in-ok-check-enter.ensures ∙ checks_enter b fl c.count.ensures Trading (g.F.StopFile.room c.args.self.now.file) c.capacity.ensures (length c.args.tape.now) cs t.kind))
+          (sym (c.in_ok-check_enter.ensures ∙ checks_enter b fl c.count.ensures Trading (g.F.StopFile.room c.args.self.now.file) c.capacity.ensures (length c.args.tape.now) cs t.kind))
           ((λ i. Entered (c.enter.ensures.number i) (counted_lines k new long s.0.tape i))) s.0 s.1 (lines_are k c.args.tape.now new long c.enter.ensures.others);
       refused = tt;
-      keeps = (c.enter.ensures.keeps ∙ c.file-stop.ensures.keeps, refl);
+      keeps = (c.enter.ensures.keeps ∙ c.file_stop.ensures.keeps, refl);
     }

@@ -2,11 +2,11 @@ use Rattle.std.proofs.Common.{ℕ, ◌<◌, Some, sym, ap, ◌∙◌, arith}
 use Rattle.trading.proofs.Queue.{gone_first, not_empty}
 use Rattle.trading.proofs.line.Line.leave.Goals as goal
 
-pub invariant-of-self : goal.invariant-of-self
-invariant-of-self c =
+pub invariant_of-self : goal.invariant_of-self
+invariant_of-self c =
     let l = c.args.self.now in
     let some : l.gone < l.joined = not_empty c.in-Some.first l.gone l.joined l.numbers c.in-Some.ensures in
-    ((omega arith, omega (arith, l.within), l.within.2), tt)
+    record { within = (omega arith, omega (arith, l.within), l.within.2) }
 
 pub returns-then-first-number : goal.returns-then-first-number
 returns-then-first-number c =

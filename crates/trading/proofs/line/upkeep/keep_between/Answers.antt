@@ -8,7 +8,7 @@ returns c =
     let i = c.args.from in
     let j = c.args.to in
     let ns = c.args.numbers.now in
-    let k = c.keep-others in
+    let k = c.keep_others in
     let long : length (take (j - i) (drop i ns)) ≡ j - i = omega (arith, c.requires, length-take (j - i) (drop i ns), length-drop i ns) in
     let few : k.result ≤ j - i = omega (arith, k.ensures.within) in
     record {
