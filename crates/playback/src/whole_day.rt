@@ -28,7 +28,7 @@ pub fn replay<R: ShareOut + Drop, F: StopFile + Drop>(
 ) -> Result<Report, AllocError>
     ensures replies { IfOk result (λ p. map answer_of p.replies.items ≡ answers (R.ShareOut.gifts rule) (F.StopFile.room file) new_day (map (call_of (length lines.old)) calls.now)) }
     ensures views { IfOk result (λ p. p.views.items ≡ views (R.ShareOut.gifts rule) (F.StopFile.room file) new_day (map (call_of (length lines.old)) calls.now)) }
-    ensures tape { IfOk result (λ p. p.tape.items ≡ (after-calls (R.ShareOut.gifts rule) (F.StopFile.room file) new_day (map (call_of (length lines.old)) calls.now)).tape) }
+    ensures tape { IfOk result (λ p. p.tape.items ≡ (after_calls (R.ShareOut.gifts rule) (F.StopFile.room file) new_day (map (call_of (length lines.old)) calls.now)).tape) }
     ensures laws { ListLaws (R.ShareOut.gifts rule) (F.StopFile.room file) (map (call_of (length lines.old)) calls.now) }
 {
     let mut stage = Stage::Load(begin(rule, file));

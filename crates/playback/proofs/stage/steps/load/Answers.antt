@@ -31,15 +31,15 @@ returns g c =
           record {
             did = λ fl.
                 did_as (ap (call_of n) w.in-LoadLimit.is) (ap answer_of w.reply-is ∙ w.numbered-reply.ensures) (ap (λ (x : LoadingDay g.row.R.Denot g.row.F.Denot). day_of Loading x.board) w.day-is)
-                (ap (λ (x : LoadingDay g.row.R.Denot g.row.F.Denot). g.F.StopFile.stops x.file) w.day-is) refl (silent c.args.tape.now (w.load-limit.ensures.did fl));
-            keeps = (ap (λ (x : LoadingDay g.row.R.Denot g.row.F.Denot). g.F.StopFile.room x.file) w.day-is ∙ w.load-limit.ensures.keeps.0, ap (λ (x : LoadingDay g.row.R.Denot g.row.F.Denot). x.rule) w.day-is ∙ w.load-limit.ensures.keeps.1);
+                (ap (λ (x : LoadingDay g.row.R.Denot g.row.F.Denot). g.F.StopFile.stops x.file) w.day-is) refl (silent c.args.tape.now (w.load_limit.ensures.did fl));
+            keeps = (ap (λ (x : LoadingDay g.row.R.Denot g.row.F.Denot). g.F.StopFile.room x.file) w.day-is ∙ w.load_limit.ensures.keeps.0, ap (λ (x : LoadingDay g.row.R.Denot g.row.F.Denot). x.rule) w.day-is ∙ w.load_limit.ensures.keeps.1);
           }
       | in-LoadStop w ↦
           record {
             did = λ fl.
                 did_as (ap (call_of n) w.in-LoadStop.is) (ap answer_of w.reply-is ∙ w.numbered-reply-in-LoadStop.ensures) (ap (λ (x : LoadingDay g.row.R.Denot g.row.F.Denot). day_of Loading x.board) w.day-is)
-                (ap (λ (x : LoadingDay g.row.R.Denot g.row.F.Denot). g.F.StopFile.stops x.file) w.day-is) refl (silent c.args.tape.now (w.load-stop.ensures.did fl));
-            keeps = (ap (λ (x : LoadingDay g.row.R.Denot g.row.F.Denot). g.F.StopFile.room x.file) w.day-is ∙ w.load-stop.ensures.keeps.0, ap (λ (x : LoadingDay g.row.R.Denot g.row.F.Denot). x.rule) w.day-is ∙ w.load-stop.ensures.keeps.1);
+                (ap (λ (x : LoadingDay g.row.R.Denot g.row.F.Denot). g.F.StopFile.stops x.file) w.day-is) refl (silent c.args.tape.now (w.load_stop.ensures.did fl));
+            keeps = (ap (λ (x : LoadingDay g.row.R.Denot g.row.F.Denot). g.F.StopFile.room x.file) w.day-is ∙ w.load_stop.ensures.keeps.0, ap (λ (x : LoadingDay g.row.R.Denot g.row.F.Denot). x.rule) w.day-is ∙ w.load_stop.ensures.keeps.1);
           }
       | in-Enter w ↦
           let other : loads c.args.call ≡ false = search rules in

@@ -38,8 +38,8 @@ returns g c =
           record {
             did = λ fl.
                 did_as (ap (call_of n) w.in-FloorTrade.is) (ap answer_of w.reply-is ∙ w.written-reply-in-FloorTrade.ensures) (ap (λ (x : TradingDay g.row.R.Denot g.row.F.Denot). day_of Trading x.board) w.day-is)
-                (ap (λ (x : TradingDay g.row.R.Denot g.row.F.Denot). g.F.StopFile.stops x.file) w.day-is) w.tape-is (w.floor-trade.ensures.did fl);
-            keeps = (ap (λ (x : TradingDay g.row.R.Denot g.row.F.Denot). g.F.StopFile.room x.file) w.day-is ∙ w.floor-trade.ensures.keeps.0, ap (λ (x : TradingDay g.row.R.Denot g.row.F.Denot). x.rule) w.day-is ∙ w.floor-trade.ensures.keeps.1);
+                (ap (λ (x : TradingDay g.row.R.Denot g.row.F.Denot). g.F.StopFile.stops x.file) w.day-is) w.tape-is (w.floor_trade.ensures.did fl);
+            keeps = (ap (λ (x : TradingDay g.row.R.Denot g.row.F.Denot). g.F.StopFile.room x.file) w.day-is ∙ w.floor_trade.ensures.keeps.0, ap (λ (x : TradingDay g.row.R.Denot g.row.F.Denot). x.rule) w.day-is ∙ w.floor_trade.ensures.keeps.1);
           }
       | in-Resume w ↦
           record {
