@@ -49,7 +49,7 @@ admits t os = nat_lt (length os) 512 && nat_le t.shares 1000000
 abbrev pub first_in : Order → Option Range → List Order → Option ℕ
 first_in r g os = allowed (reaches r g) (best (opposite r.side) (prices (rests_on (opposite r.side)) os))
 
--- the clean_up_lem price of q shares: of the prices of the other side within limit and range, the best at which the orders priced there or
+-- the clean-up price of q shares: of the prices of the other side within limit and range, the best at which the orders priced there or
 -- better cover q; if none covers it, the worst
 abbrev pub clean_up_to : ℕ → Order → Option Range → List Order → Option ℕ
 clean_up_to q r g os =

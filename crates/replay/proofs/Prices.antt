@@ -1,4 +1,4 @@
--- The first price and the clean_up_lem price are good prices to trade at.
+-- The first price and the clean-up price are good prices to trade at.
 use Rattle.std.proofs.Common.{◌≡◌, ℕ, ◌<◌, ◌≤◌, Bool, true, false, cond, ◌&&◌, ◌||◌, leb, ◌⊎◌, List, [], ◌∷◌, map, Some, None, Option, sym, refl, ◌∙◌, subst, inl, inr, ⊎_elim, arith}
 use Rattle.std.proofs.lemmas.Bool.{false≢true, and_parts, and_from, ltb-true, ltb-false, leb-true, le-leb, le-ltb, cases_lt}
 use Rattle.std.specs.List.{AllByRecursion}
@@ -154,7 +154,7 @@ none_ahead c p os a = total_none (λ o. only (is_better c p o) o.«open») os (a
     go true b n h = rw (h refl) refl
     go false b n h = refl
 
--- the clean_up_lem price ------------------------------------------------------------------------------------------------------------
+-- the clean-up price ------------------------------------------------------------------------------------------------------------
 not_worse : (c : Side) (x w : ℕ) → better (opposite c) x w ≡ false → as_good c x w ≡ true
 not_worse Buy x w e = le-leb w x (ltb-false x w e)
 not_worse Sell x w e = le-leb x w (ltb-false w x e)

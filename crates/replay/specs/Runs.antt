@@ -32,7 +32,7 @@ abbrev pub or : Option ℕ → Option ℕ → Option ℕ
 or None y = y
 or (Some x) y = Some x
 
--- The clean_up_lem price, among the prices of the other side within limit and range: the best at which the orders priced there or better
+-- The clean-up price, among the prices of the other side within limit and range: the best at which the orders priced there or better
 -- cover what is left of the order; if none covers it, the worst.
 unfoldable pub clean_up : Order → Day → Option ℕ
 clean_up r d =
@@ -85,7 +85,7 @@ centre_if None (Some p) d = centre d
 centre_if None None d = d
 centre_if (Some g) x d = d
 
--- An order runs: it prints at the first price and then at the clean_up_lem price; what is left is settled; then each print elects, in turn.
+-- An order runs: it prints at the first price and then at the clean-up price; what is left is settled; then each print elects, in turn.
 unfoldable pub run : Rule → Order → Day → Day
 run gifts r d =
     let a : Option ℕ = first_price r d in
