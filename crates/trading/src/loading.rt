@@ -99,11 +99,4 @@ impl<R: ShareOut, F: StopFile> LoadingDay<R, F> {
         board.centre();
         TradingDay { board, rule, file }
     }
-
-    // Nobody can call this: open the day first.
-    pub fn enter(&mut self, _ticket: Ticket)
-        requires { ⊥ }
-    {
-        unreachable()
-    }
 }

@@ -78,12 +78,3 @@ impl<R: ShareOut, F: StopFile> TradingDay<R, F> {
         ClosedDay { board, rule, file }
     }
 }
-
-impl<R: ShareOut, F: StopFile> ClosedDay<R, F> {
-    // Nobody can call this: begin a new day.
-    pub fn floor_trade(&mut self, _price: u32, _shares: u32)
-        requires { ⊥ }
-    {
-        unreachable()
-    }
-}
