@@ -1,5 +1,5 @@
 -- What a call did, seen from the day that it was put to.
-use Rattle.std.proofs.Common.{◌≡◌, ℕ, Bool, true, false, List, [], ◌∷◌, ◌++◌, length, drop, Some, sym, refl, ap, ◌∙◌, subst, arith}
+use Rattle.std.proofs.Common.{◌≡◌, ℕ, Bool, true, false, List, [], ◌∷◌, ◌++◌, length, drop, Some, sym, refl, ap, subst, arith}
 use Rattle.market.specs.declared.words.Stop.{Stop}
 use Rattle.market.specs.declared.words.TapeLine.{TapeLine}
 use Rattle.replay.specs.Days.{Day, Phase, Loading, Trading, Closed, Rule, Answer}

@@ -1,6 +1,5 @@
 -- Calls and replies of a list, and the day that a stage stands for. Assumes nothing.
-use Rattle.std.specs.Prelude.{ℕ, List}
-use Rattle.market.specs.declared.words.Stop.{Stop}
+use Rattle.std.specs.Prelude.{ℕ}
 use Rattle.trading.specs.declared.board.Board.{Board}
 use Rattle.trading.specs.Boards.{day_of}
 use Rattle.trading.specs.Deeds.{entering}

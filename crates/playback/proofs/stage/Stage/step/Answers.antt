@@ -1,4 +1,4 @@
-use Rattle.std.proofs.Common.{◌≡◌, length, sym, refl, ap, ◌∙◌, subst}
+use Rattle.std.proofs.Common.{length, sym, refl, ap, subst}
 use Rattle.replay.specs.Days.{Refused}
 use Rattle.trading.specs.Deeds.{Filed, Did}
 use Rattle.trading.proofs.Doing.{did_refused}

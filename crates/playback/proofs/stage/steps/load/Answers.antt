@@ -1,5 +1,5 @@
-use Rattle.std.proofs.Common.{◌≡◌, false, length, sym, refl, ap, ◌∙◌, rules}
-use Rattle.replay.specs.Days.{Loading, Refused}
+use Rattle.std.proofs.Common.{◌≡◌, false, length, refl, ap, ◌∙◌, rules}
+use Rattle.replay.specs.Days.{Loading}
 use Rattle.trading.specs.declared.day.LoadingDay.{LoadingDay}
 use Rattle.trading.specs.Boards.{day_of}
 use Rattle.trading.proofs.Doing.{did_refused}

@@ -1,5 +1,5 @@
-use Rattle.std.proofs.Common.{◌≡◌, true, length, sym, refl, ap, ◌∙◌, rules}
-use Rattle.replay.specs.Days.{Trading, Refused}
+use Rattle.std.proofs.Common.{◌≡◌, true, length, refl, ap, ◌∙◌, rules}
+use Rattle.replay.specs.Days.{Trading}
 use Rattle.trading.specs.declared.day.TradingDay.{TradingDay}
 use Rattle.trading.specs.Boards.{day_of}
 use Rattle.trading.proofs.Doing.{did_refused}

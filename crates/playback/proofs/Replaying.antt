@@ -1,0 +1,167 @@
+-- The replay of a list, midway: what was reported so far, and what is still to come.
+use Rattle.std.proofs.Common.{◌≡◌, ℕ, ◌≤◌, List, [], ◌∷◌, ◌++◌, length, take, drop, Option, Some, None, sym, refl, ap, ◌∙◌, subst, append_assoc, arith}
+use Rattle.std.proofs.lemmas.List.{append-nil, length-append}
+use Rattle.std.proofs.Math.Seq.{take-append_seam}
+use Rattle.market.specs.declared.words.Stop.{Stop}
+use Rattle.market.specs.declared.words.TapeLine.{TapeLine}
+use Rattle.replay.specs.Days.{Day, Rule, Call, Answer, Loading, new_day, Set, LoadLimit, LoadStop, Open, Enter, CancelOrder, FloorTrade, Resume, Close, Done, Number, Lines, Entered, Refused}
+use Rattle.replay.specs.Calls.{refusal, checks, became, answered, perform, decided, step, after_calls, answers}
+use Rattle.replay.specs.Moves.{set_up, admit, centre, to}
+use Rattle.replay.specs.Questions.{quote}
+use Rattle.replay.specs.History.{bare, Bare}
+use Rattle.replay.specs.StopFile.{file_of}
+use Rattle.replay.proofs.History.{step_bare}
+use Rattle.trading.specs.Boards.{orders_of, day_of}
+use Rattle.trading.specs.Deeds.{Filed, Did}
+use Rattle.playback.specs.declared.reply.Reply.{Reply}
+use Rattle.playback.specs.declared.reply.Reply.TheVariants as replies
+use Rattle.playback.specs.declared.reply.View.{View}
+use Rattle.playback.specs.declared.stage.Stage.{Stage}
+use Rattle.playback.specs.declared.stage.Stage.TheVariants.{Load, Trade, Shut}
+use Rattle.playback.specs.declared.call.Call as calls
+use Rattle.playback.specs.Stages.{call_of, answer_of, lines_of, day_in, board_in}
+use Rattle.playback.specs.Views.{view_of, views}
+
+-- how many lines an answer tells of
+abbrev told : Answer → ℕ
+told Done = 0
+told (Number n) = 0
+told (Lines k) = k
+told (Entered n k) = k
+told (Refused k) = 0
+
+told_lines : (r : Reply) → lines_of r ≡ told (answer_of r)
+told_lines replies.Done = refl
+told_lines (replies.Number n) = refl
+told_lines (replies.Lines k) = refl
+told_lines (replies.Entered r) = refl
+told_lines (replies.Refused k) = refl
+
+told_done : (gifts : Rule) (d : Day) (c : Call) → told (answered (bare d) c (became gifts (bare d) c)) ≡ length (became gifts (bare d) c).tape
+unfolding answered became set_up admit centre to
+told_done gifts d (Set k c p) = refl
+told_done gifts d (LoadLimit s m p q) = refl
+told_done gifts d (LoadStop s m p q) = refl
+told_done gifts d Open = refl
+told_done gifts d (Enter k s m p q f) = refl
+told_done gifts d (CancelOrder m n f) = refl
+told_done gifts d (FloorTrade p q f) = refl
+told_done gifts d (Resume f) = refl
+told_done gifts d Close = refl
+
+-- on a day without history an answer tells of all lines of the tape
+told_tape : (gifts : Rule) (room : ℕ) (d : Day) (c : Call) → told (step gifts room (bare d) c).answer ≡ length (step gifts room (bare d) c).day.tape
+unfolding step perform
+told_tape gifts room d c = go (refusal (checks room (bare d) c))
+  where
+    go : (x : Option ℕ) → told (decided x (bare d) (perform gifts (bare d) c)).answer ≡ length (decided x (bare d) (perform gifts (bare d) c)).day.tape
+    go None = told_done gifts d c
+    go (Some k) = refl
+
+-- what is seen of a day does not look at its history
+view_bare : (d : Day) → view_of (bare d) ≡ view_of d
+unfolding quote
+view_bare d = refl
+
+-- Some calls of a list were put to a day, and the rest are still to come: the day with its history, and what was reported so far.
+pub record Midway (gifts : Rule) (room : ℕ) (all rest : List Call) (b : Day) (rs : List Answer) (vs : List View) (ls : List TapeLine) : Type 0 where
+  pub day : Day
+  pub shown : b ≡ bare day
+  pub replies : rs ++ answers gifts room day rest ≡ answers gifts room new_day all
+  pub views : vs ++ views gifts room day rest ≡ views gifts room new_day all
+  pub tape : ls ≡ day.tape
+  pub after : after_calls gifts room day rest ≡ after_calls gifts room new_day all
+
+pub begun : (gifts : Rule) (room : ℕ) (cs : List Call) {b : Day} {rs : List Answer} {vs : List View} {ls : List TapeLine} → b ≡ new_day → rs ≡ [] → vs ≡ [] → ls ≡ [] → Midway gifts room cs cs b rs vs ls
+unfolding new_day
+begun gifts room cs e r v l = record {
+  day = new_day;
+  shown = e;
+  replies = ap (λ xs. xs ++ answers gifts room new_day cs) r;
+  views = ap (λ xs. xs ++ views gifts room new_day cs) v;
+  tape = l;
+  after = refl;
+}
+
+pub ended : {gifts : Rule} {room : ℕ} {all : List Call} {b : Day} {rs : List Answer} {vs : List View} {ls : List TapeLine} (m : Midway gifts room all [] b rs vs ls)
+    → (rs ≡ answers gifts room new_day all) × (vs ≡ views gifts room new_day all) × (ls ≡ (after_calls gifts room new_day all).tape)
+unfolding answers views after_calls
+ended {rs = rs} {vs = vs} m = (sym (append-nil rs) ∙ m.replies, sym (append-nil vs) ∙ m.views, m.tape ∙ ap (λ (d : Day). d.tape) m.after)
+
+-- what a call did on the day with its history
+pub did_bare : {gifts : Rule} {room : ℕ} {all rest : List Call} {b : Day} {rs : List Answer} {vs : List View} {ls : List TapeLine} {c : Call} {a : Answer} {e : Day} {ss : List Stop} {ks ks' : List TapeLine}
+    (m : Midway gifts room all rest b rs vs ls) → Did gifts room b c a e ss ks ks' → Did gifts room (bare m.day) c a e ss ks ks'
+did_bare {gifts = gifts} {room = room} {c = c} {a = a} {e = e} {ss = ss} {ks = ks} {ks' = ks'} m x = subst (λ y. Did gifts room y c a e ss ks ks') m.shown x
+
+-- the lines that it wrote are among those that it was lent
+pub told_fit : {gifts : Rule} {room : ℕ} {all rest : List Call} {b : Day} {rs : List Answer} {vs : List View} {ls : List TapeLine} {c : Call} {e : Day} {ss : List Stop} {ks ks' : List TapeLine} (r : Reply)
+    (m : Midway gifts room all rest b rs vs ls) → Did gifts room b c (answer_of r) e ss ks ks' → lines_of r ≤ length ks'
+told_fit {gifts = gifts} {room = room} {c = c} {ks = ks} r m x =
+    let y = did_bare m x in
+    let t : List TapeLine = (step gifts room (bare m.day) c).day.tape in
+    omega (arith, told_lines r, ap told y.answer, told_tape gifts room m.day c, ap length y.lines, length-append t (drop (length t) ks))
+
+-- and they are all that it handed over
+told_taken : {gifts : Rule} {room : ℕ} {all rest : List Call} {b : Day} {rs : List Answer} {vs : List View} {ls : List TapeLine} {c : Call} {e : Day} {ss : List Stop} {ks ks' : List TapeLine} (r : Reply)
+    (m : Midway gifts room all rest b rs vs ls) → Did gifts room b c (answer_of r) e ss ks ks' → take (lines_of r) ks' ≡ (step gifts room (bare m.day) c).day.tape
+told_taken {gifts = gifts} {room = room} {c = c} {ks = ks} {ks' = ks'} r m x =
+    let y = did_bare m x in
+    let t : List TapeLine = (step gifts room (bare m.day) c).day.tape in
+    ap (λ n. take n ks') (told_lines r ∙ ap told y.answer ∙ told_tape gifts room m.day c) ∙ ap (take (length t)) y.lines ∙ take-append_seam t (drop (length t) ks)
+
+-- one call more
+pub went_on : {gifts : Rule} {room : ℕ} {all rest : List Call} {b : Day} {rs : List Answer} {vs : List View} {ls : List TapeLine} {c : Call} {e : Day} {ss : List Stop} {ks ks' : List TapeLine} (r : Reply) (v : View)
+    → Midway gifts room all (c ∷ rest) b rs vs ls → Did gifts room b c (answer_of r) e ss ks ks' → v ≡ view_of e → Midway gifts room all rest e (rs ++ answer_of r ∷ []) (vs ++ v ∷ []) (ls ++ take (lines_of r) ks')
+unfolding answers views after_calls
+went_on {gifts = gifts} {room = room} {rest = rest} {rs = rs} {vs = vs} {ls = ls} {c = c} {e = e} r v m x seen =
+    let y = did_bare m x in
+    let s : Bare gifts room m.day c = step_bare gifts room m.day c in
+    let d : Day = (step gifts room m.day c).day in
+    let shown : e ≡ bare d = y.day ∙ sym s.day in
+    record {
+      day = d;
+      shown = shown;
+      replies = append_assoc rs (answer_of r ∷ []) (answers gifts room d rest) ∙ ap (λ a. rs ++ a ∷ answers gifts room d rest) (y.answer ∙ sym s.answer) ∙ m.replies;
+      views = append_assoc vs (v ∷ []) (views gifts room d rest) ∙ ap (λ w. vs ++ w ∷ views gifts room d rest) (seen ∙ ap view_of shown ∙ view_bare d) ∙ m.views;
+      tape = ap (λ l. ls ++ l) (told_taken r m x) ∙ ap (λ l. l ++ (step gifts room (bare m.day) c).day.tape) m.tape ∙ sym s.tape;
+      after = m.after;
+    }
+
+-- the stop file of the day after a call
+filed_in : {R F : Type 0} (st : Stage R F) → file_of (day_in st).roll ≡ file_of (orders_of (board_in st))
+filed_in (Load d) = refl
+filed_in (Trade d) = refl
+filed_in (Shut d) = refl
+
+pub filed_after : {gifts : Rule} {room : ℕ} {b : Day} {c : Call} {a : Answer} {R F : Type 0} (st : Stage R F) {ss : List Stop} {ks ks' : List TapeLine} → Did gifts room b c a (day_in st) ss ks ks' → Filed ss (board_in st)
+filed_after st x = x.file ∙ filed_in st
+
+-- the same by an equal rule, capacity and count of free lines
+pub did_by : {gifts gifts' : Rule} {room room' f f' : ℕ} {d : Day} {a : Answer} {e : Day} {ss : List Stop} {ks ks' : List TapeLine} (x : calls.Call) → gifts ≡ gifts' → room ≡ room' → f ≡ f'
+    → Did gifts room d (call_of f x) a e ss ks ks' → Did gifts' room' d (call_of f' x) a e ss ks ks'
+did_by {gifts} {gifts'} {room} {room'} {f} {f'} {d} {a} {e} {ss} {ks} {ks'} x g r l h =
+    subst (λ y. Did gifts' y d (call_of f' x) a e ss ks ks') r (subst (λ y. Did y room d (call_of f' x) a e ss ks ks') g (subst (λ y. Did gifts room d (call_of y x) a e ss ks ks') l h))
+
+-- the same by an equal rest and equal reports
+pub midway_by : {gifts : Rule} {room : ℕ} {all rest rest' : List Call} {b : Day} {rs rs' : List Answer} {vs vs' : List View} {ls ls' : List TapeLine} → rest ≡ rest' → rs ≡ rs' → vs ≡ vs' → ls ≡ ls'
+    → Midway gifts room all rest b rs vs ls → Midway gifts room all rest' b rs' vs' ls'
+midway_by {gifts} {room} {all} p q r s m = record {
+  day = m.day;
+  shown = m.shown;
+  replies = (λ i. (sym q) i ++ answers gifts room m.day ((sym p) i)) ∙ m.replies;
+  views = (λ i. (sym r) i ++ views gifts room m.day ((sym p) i)) ∙ m.views;
+  tape = sym s ∙ m.tape;
+  after = ap (after_calls gifts room m.day) (sym p) ∙ m.after;
+}
+
+-- what is seen of a board is seen of the day
+pub view_in : {R F : Type 0} (st : Stage R F) → view_of (day_of Loading (board_in st)) ≡ view_of (day_in st)
+unfolding quote
+view_in (Load d) = refl
+view_in (Trade d) = refl
+view_in (Shut d) = refl
+
+-- at the end of the list
+pub all_told : {gifts : Rule} {room : ℕ} {all rest : List Call} {b : Day} {rs : List Answer} {vs : List View} {ls : List TapeLine} → rest ≡ [] → Midway gifts room all rest b rs vs ls
+    → (rs ≡ answers gifts room new_day all) × (vs ≡ views gifts room new_day all) × (ls ≡ (after_calls gifts room new_day all).tape)
+all_told e m = ended (midway_by e refl refl refl m)
