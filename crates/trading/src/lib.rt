@@ -1,4 +1,4 @@
-// A trading day: the calls that it takes, phase by phase, the questions that may be put to it, and the replay of a whole list of calls.
+// A trading day: the calls that it takes, phase by phase, and the questions that may be put to it.
 #![tactic(auto)]
 
 pub mod answer;
