@@ -3,6 +3,7 @@ pub mod Filed
 pub mod Firsts
 pub mod Leaving
 pub mod Lookup
+pub mod Places
 pub mod Moving
 pub mod Printing
 pub mod Prints

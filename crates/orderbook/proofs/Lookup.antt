@@ -1,6 +1,6 @@
 -- Orders of a roll that is numbered from 1, by number and by place.
-use Rattle.std.proofs.Common.{◌≡◌, ℕ, suc, ◌+◌, ◌-◌, ◌<◌, ◌≤◌, Bool, true, false, cond, not, ◌&&◌, eqb, List, [], ◌∷◌, ◌++◌, length, get_or, set, Some, None, sym, refl, ap, ◌∙◌, ⊎_elim, arith}
-use Rattle.std.proofs.lemmas.Bool.{false≢true, eqb-true, eqb-false, eq-eqb, ne_eqb, cases_eq, cases_lt, lt-ltb, le-ltb}
+use Rattle.std.proofs.Common.{◌≡◌, ℕ, suc, ◌+◌, ◌-◌, ◌<◌, ◌≤◌, Bool, true, false, cond, ◌&&◌, eqb, List, [], ◌∷◌, ◌++◌, length, get_or, set, Some, None, sym, refl, ap, ◌∙◌, ⊎_elim, arith}
+use Rattle.std.proofs.lemmas.Bool.{eqb-true, eqb-false, eq-eqb, ne_eqb, cases_eq, cases_lt, lt-ltb, le-ltb}
 use Rattle.std.proofs.ByRecursion.{All-get_or}
 use Rattle.market.specs.declared.words.Order.{Order}
 use Rattle.market.specs.declared.words.Side.{Side}
@@ -11,8 +11,6 @@ use Rattle.market.specs.declared.change.Change.{Change}
 use Rattle.market.specs.declared.change.Change.TheVariants.{Cancel}
 use Rattle.market.specs.Changes.{does, blank, order_at, does_at}
 use Rattle.market.specs.Sides.{same_side}
-use denote.Enum.Bare.{sameb}
-use Rattle.market.specs.contracts.words.Place.{the_type}
 use Rattle.market.specs.Orders.{is_book, rests_on, cancel}
 use Rattle.replay.specs.Rolls.{look, found, alter, here, open_of, left}
 use Rattle.replay.specs.RollHolds.{Numbered}
@@ -189,24 +187,6 @@ module _ {n : ℕ} {os : List Order} {o : Order} (f : Found n os o) where
   price_at = ap (λ (x : Order). x.price) f.is
 
 -- what `!=` says of a place
--- what the code's comparison of a place with the book says
-pub eq_off : (w : Place) → false ≡ sameb the_type w Book → w ≡ Book → ⊥
-eq_off Nowhere e h = absurd (false≢true (ap is_book h))
-eq_off Book e h = absurd (false≢true e)
-eq_off Line e h = absurd (false≢true (ap is_book h))
-eq_off StopFile e h = absurd (false≢true (ap is_book h))
-
-pub ne_off : (w : Place) (r : Bool) → r ≡ not (sameb the_type w Book) → r ≡ true → w ≡ Book → ⊥
-ne_off Nowhere r e f h = absurd (false≢true (ap is_book h))
-ne_off Book r e f h = absurd (false≢true (sym e ∙ f))
-ne_off Line r e f h = absurd (false≢true (ap is_book h))
-ne_off StopFile r e f h = absurd (false≢true (ap is_book h))
-
-pub ne_on : (w : Place) (r : Bool) → r ≡ not (sameb the_type w Book) → r ≡ false → w ≡ Book
-ne_on Nowhere r e f = absurd (false≢true (sym f ∙ e))
-ne_on Book r e f = refl
-ne_on Line r e f = absurd (false≢true (sym f ∙ e))
-ne_on StopFile r e f = absurd (false≢true (sym f ∙ e))
 
 -- what is read at a place of the roll
 pub order_in : (os : List Order) (i : ℕ) (o : Order) → i < length os → Some o ≡ order_at i os → o ≡ get_or os i blank

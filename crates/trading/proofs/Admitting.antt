@@ -1,8 +1,6 @@
 -- One order more on the roll of a board.
 use Rattle.std.proofs.Common.{◌≡◌, ℕ, suc, ◌+◌, ◌<◌, ◌≤◌, Bool, true, false, cond, ◌&&◌, eqb, List, [], ◌∷◌, ◌++◌, length, Some, None, sym, refl, ap, ◌∙◌, subst, arith}
 use Rattle.std.proofs.lemmas.Bool.{false≢true, lt-ltb, le-leb, eq-eqb, ne_eqb}
-use denote.Enum.Bare.{sameb}
-use Rattle.market.specs.contracts.words.Place.{the_type}
 use Rattle.market.specs.declared.words.Kind.{Kind}
 use Rattle.market.specs.declared.words.Kind.TheVariants.{Limit, Market, ImmediateOrCancel, Stop}
 use Rattle.market.specs.declared.words.Place.{Place}
@@ -121,17 +119,6 @@ ruled_last {os} {us} {l} {l'} {j} {j'} {n} o e num h loose is into more r =
       room = omega (arith, more, filed_push os o, loose_none o.place loose, r.room);
     }))
 
--- what the code's comparison of a place with the line says
-pub eq_line : (w : Place) → true ≡ sameb the_type w Line → w ≡ Line
-eq_line Nowhere e = absurd (false≢true (sym e))
-eq_line Book e = absurd (false≢true (sym e))
-eq_line Line e = refl
-eq_line StopFile e = absurd (false≢true (sym e))
-
-pub ne_line : (w : Place) → false ≡ sameb the_type w Line → w ≡ Line → ⊥
-ne_line w e h = absurd (false≢true (e ∙ ap (λ x. sameb the_type x Line) h))
-
--- the line of the day ----------------------------------------------------------------------------------------------------
 pub line_more : {l l' m : List ℕ} {n k : ℕ} (w : Place) → l' ≡ l ++ n ∷ [] → w ≡ Line → n ≡ k → l ≡ m → l' ≡ line_with w k m
 line_more {m = m} {k = k} w e is a b = e ∙ (λ i. b i ++ a i ∷ []) ∙ ap (λ x. line_with x k m) (sym is)
 
