@@ -1,3 +1,4 @@
 pub mod Stages
 pub mod Views
+pub mod Lent
 pub mod Laws

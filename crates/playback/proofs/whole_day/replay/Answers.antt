@@ -79,3 +79,6 @@ returns-clause-tape g c = (all_told (ap (map (call_of (length c.args.lines.now))
 
 pub returns-clause-laws : goal.returns-clause-laws
 returns-clause-laws g c = list_laws _ (g.R.ShareOut.lawful c.args.rule) _ _
+
+pub returns-clause-lines : goal.returns-clause-lines
+returns-clause-lines g c = (all_told (ap (map (call_of (length c.args.lines.now))) (drop_all c.loop-call.call-index c.args.calls.now (omega arith))) c.loop-call.invariant.midway).3

@@ -11,5 +11,5 @@ invariant-loop-call g l =
       rule : rule_in l.stage ≡ l.fn.rule;
       room : g.F.StopFile.room (file_in l.stage) ≡ g.F.StopFile.room l.fn.file;
       filed : Filed (g.F.StopFile.stops (file_in l.stage)) (board_in l.stage);
-      midway : Midway (g.R.ShareOut.gifts l.fn.rule) (g.F.StopFile.room l.fn.file) (map (call_of (length l.fn.lines)) l.calls) (map (call_of (length l.fn.lines)) (drop l.call-index l.calls)) (day_in l.stage) (map answer_of l.report.replies.items) l.report.views.items l.report.tape.items;
+      midway : Midway (g.R.ShareOut.gifts l.fn.rule) (g.F.StopFile.room l.fn.file) (map (call_of (length l.fn.lines)) l.calls) (map (call_of (length l.fn.lines)) (drop l.call-index l.calls)) (day_in l.stage) (map answer_of l.report.replies.items) l.report.views.items l.report.tape.items l.fn.lines l.lines;
     }
