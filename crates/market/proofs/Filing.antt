@@ -6,21 +6,11 @@ use Rattle.std.proofs.lemmas.List.Edits.{length-insert, length-remove}
 use Rattle.std.proofs.lemmas.List.{take_at, get_or-take, length-take-le}
 use Rattle.std.proofs.ByRecursion.{All-weaker, All-append, All-take, All-drop}
 use Rattle.std.proofs.lemmas.List.Sorted.{IsPermutation-refl, IsPermutation-cons, IsPermutation-trans, IsPermutation-swap}
-use Rattle.std.proofs.lemmas.List.Sums.{prefix_len-drop_yes, prefix_len-drop_no, prefix_len-drop_all, prefix_len-le-length}
+use Rattle.std.proofs.lemmas.List.Sums.{prefix_len-le-length}
 use Rattle.std.proofs.lemmas.Bool.{cases_Bool, both_ways}
 use Rattle.market.specs.Files.{Strict, filed, ahead, InOrder, Filing, Removal}
 
 module _ {X : Type 0} (before : X → X → Bool) where
-  -- a loop's step: x precedes the record at i, or does not
-  pub ahead_stops : (x : X) (xs : List X) (i : ℕ) (y : X) → i < length xs → y ≡ get_or xs i y → before x y ≡ true → ahead before x (drop i xs) ≡ 0
-  ahead_stops x xs i y h is e = prefix_len-drop_no (λ z. not (before x z)) xs i y h (ap (λ z. not (before x z)) (sym is) ∙ ap not e)
-
-  pub ahead_more : (x : X) (xs : List X) (i : ℕ) (y : X) → i < length xs → y ≡ get_or xs i y → before x y ≡ false → ahead before x (drop i xs) ≡ 1 + ahead before x (drop (i + 1) xs)
-  ahead_more x xs i y h is e = prefix_len-drop_yes (λ z. not (before x z)) xs i y h (ap (λ z. not (before x z)) (sym is) ∙ ap not e)
-
-  pub ahead_none : (x : X) (xs : List X) (i : ℕ) → length xs ≤ i → ahead before x (drop i xs) ≡ 0
-  ahead_none x xs i h = prefix_len-drop_all (λ z. not (before x z)) xs i h
-
   pub ahead_within : (x : X) (xs : List X) → ahead before x xs ≤ length xs
   ahead_within x xs = prefix_len-le-length (λ z. not (before x z)) xs
 
@@ -47,6 +37,10 @@ module _ {X : Type 0} (before : X → X → Bool) where
       elim (before x y) as (λ b. AllByRecursion P (cond b (x ∷ y ∷ ys) (y ∷ filed before x ys)))
       [ true ↦ (h, a) | false ↦ (a.0, all_filed P x ys h a.1) ]
 
+  -- at that place, however it was found
+  pub inserted : (x : X) (xs ys : List X) (at : ℕ) → ys ≡ insert xs at x → at ≡ ahead before x xs → ys ≡ filed before x xs
+  inserted x xs ys at e place = e ∙ ap (λ n. insert xs n x) place ∙ sym (filed_is x xs)
+
   pub length_filed : (x : X) (xs : List X) → length (filed before x xs) ≡ length xs + 1
   length_filed x xs = ap length (filed_is x xs) ∙ length-insert xs (ahead before x xs) x (ahead_within x xs)
 
@@ -67,10 +61,12 @@ module _ {X : Type 0} (before : X → X → Bool) where
         (λ (e : before x y ≡ false). subst (λ b. InOrder before (cond b (x ∷ y ∷ ys) (y ∷ filed before x ys))) (sym e) (all_filed (λ z. before z y ≡ false) x ys e h.0, filed_sorted x ys h.1))
         (cases_Bool (before x y))
 
-    -- what `insert` owes of the file that it leaves
+    -- what filing owes of the file that it leaves
+    pub in_file : (x : X) (xs ys : List X) → ys ≡ filed before x xs → Filing before x xs ys
+    in_file x xs ys e = subst (Filing before x xs) (sym e) (record { ordered = filed_sorted x xs; whole = filed_same x xs })
+
     pub filing : (x : X) (items after : List X) (held : ℕ) → held < length items → after ≡ filed before x (take held items) ++ drop (held + 1) items → Filing before x (take held items) (take (held + 1) after)
-    filing x items after held h e =
-        subst (Filing before x (take held items)) (sym (front_filed x items after held h e)) (record { ordered = filed_sorted x (take held items); whole = filed_same x (take held items) })
+    filing x items after held h e = in_file x (take held items) (take (held + 1) after) (front_filed x items after held h e)
 
 -- what removal leaves
 module _ {X : Type 0} where

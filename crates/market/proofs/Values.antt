@@ -1,6 +1,7 @@
--- The program's table of values has what the bands say, and no value is above 200: the whole table is computed at once.
-use Rattle.std.proofs.Common.{◌≡◌, ℕ, zero, suc, ◌+◌, ◌<◌, ◌≤◌, Bool, true, false, cond, ◌&&◌, eqb, leb, List, [], ◌∷◌, map, get_or, sym, refl, ap, ◌∙◌, subst, ⊎_elim, one-add, arith}
-use Rattle.std.proofs.lemmas.Bool.{cases_lt, lt-ltb, le-ltb, le-leb, lt-leb, and_parts, leb-true}
+-- The program's table of values has what the bands say: the whole table is computed at once.
+use Rattle.std.proofs.Common.{◌≡◌, ℕ, zero, suc, ◌+◌, ◌<◌, ◌≤◌, Bool, true, false, cond, ltb, eqb, List, [], ◌∷◌, map, get_or, sym, refl, ap, ◌∙◌, ⊎_elim, one-add}
+use Rattle.std.specs.List.{prefix_len}
+use Rattle.std.proofs.lemmas.Bool.{cases_lt, lt-ltb, le-ltb, le-leb, lt-leb}
 use Rattle.market.specs.declared.words.Column.{Column}
 use Rattle.market.specs.declared.words.Column.TheVariants.{Lower, Higher}
 use Rattle.market.specs.Ranges.{Band, bands, band_of, of_band, of_column, row_of, column_of, value_in}
@@ -27,6 +28,12 @@ in_table true Higher j = get_d_mapped (λ cell. get_or cell 1 0) (row (λ b. b.f
 in_table false Lower j = get_d_mapped (λ cell. get_or cell 0 0) (row (λ b. b.others)) j []
 in_table false Higher j = get_d_mapped (λ cell. get_or cell 1 0) (row (λ b. b.others)) j []
 
+-- how many bands end below a last sale: the last band ends above all
+pub tops_below : (sale : ℕ) → sale ≤ 100000 → prefix_len (λ top. ltb top sale) (999 ∷ 2499 ∷ 4999 ∷ 9999 ∷ 14999 ∷ []) ≡ band_of sale bands
+tops_below sale h =
+    let at : ℕ → ℕ → ℕ = λ top n. cond (ltb top sale) (1 + n) 0 in
+    ap (λ (b : Bool). at 999 (at 2499 (at 4999 (at 9999 (at 14999 (cond b 1 0)))))) (sym (le-ltb 100000 sale h))
+
 -- the first band that goes up to the last sale
 by_band : (class : ℕ) (column : Column) (sale : ℕ) (bs : List Band) → get_or (map (of_band class column) bs) (band_of sale bs) 0 ≡ value_in bs class column sale
 by_band class column sale [] = refl
@@ -39,30 +46,9 @@ by_band class column sale (b ∷ bs) =
     (λ (h : sale ≤ b.to). ap at (le-ltb b.to sale h) ∙ sym (ap (λ t. cond t here later) (le-leb sale b.to h)))
     (cases_lt b.to sale)
 
--- a test that is computed
-small : List ℕ → Bool
-small [] = true
-small (n ∷ ns) = leb n 200 && small ns
-
-small_each : (ns : List ℕ) (j : ℕ) → small ns ≡ true → get_or ns j 0 ≤ 200
-unfolding small
-small_each [] j e = omega arith
-small_each (n ∷ ns) zero e = leb-true n 200 (and_parts (leb n 200) (small ns) e).0
-small_each (n ∷ ns) (suc j) e = small_each ns j (and_parts (leb n 200) (small ns) e).1
-
-small_values : (one : Bool) (column : Column) → small (values one column) ≡ true
-unfolding small
-small_values true Lower = refl
-small_values true Higher = refl
-small_values false Lower = refl
-small_values false Higher = refl
-
 module _ (class : ℕ) (column : Column) (sale i j k : ℕ) (at_row : i ≡ row_of class) (at-band : j ≡ band_of sale bands) (at-column : k ≡ column_of column) where
   entry : get_or (get_or (get_or table i []) j []) k 0 ≡ get_or (values (eqb class 1) column) j 0
   entry = ap (λ n. get_or (get_or (get_or table n []) j []) k 0) at_row ∙ ap (λ n. get_or (get_or (get_or table (row_of class) []) j []) n 0) at-column ∙ in_table (eqb class 1) column j
 
   pub looked_up : get_or (get_or (get_or table i []) j []) k 0 ≡ value_in bands class column sale
   looked_up = entry ∙ ap (λ n. get_or (values (eqb class 1) column) n 0) at-band ∙ by_band class column sale bands
-
-  pub at_most : get_or (get_or (get_or table i []) j []) k 0 ≤ 200
-  at_most = subst (λ n. n ≤ 200) (sym entry) (small_each (values (eqb class 1) column) j (small_values (eqb class 1) column))

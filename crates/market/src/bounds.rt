@@ -16,32 +16,35 @@ pub const LAST_CLASS: u32 = 3;
 // How many orders the roll holds.
 pub const ROLL: usize = 512;
 
+// Each bound has a name of its own in the rules, and its test is one call of the library: there is nothing left to share.
 pub fn is_price(price: u32) -> bool
     ensures { result ≡ is_price price }
 {
-    1 <= price && price <= HIGHEST_PRICE
+    (1..=HIGHEST_PRICE).contains(&price)
 }
 
 pub fn is_shares(shares: u32) -> bool
     ensures { result ≡ is_shares shares }
 {
-    ROUND_LOT <= shares && shares <= MOST_SHARES && shares % ROUND_LOT == 0
+    (ROUND_LOT..=MOST_SHARES).contains(&shares) && shares % ROUND_LOT == 0
 }
 
 pub fn is_member(member: u32) -> bool
     ensures { result ≡ is_member member }
 {
-    1 <= member && member <= LAST_MEMBER
+    (1..=LAST_MEMBER).contains(&member)
 }
 
-// Classes of trading volume.
+// Classes of trading volume. A class is a number in the day line, in the rules and in every definition: an enum would be made of it
+// and unmade again at each.
 pub fn is_class(class: u32) -> bool
     ensures { result ≡ is_class class }
 {
-    1 <= class && class <= LAST_CLASS
+    (1..=LAST_CLASS).contains(&class)
 }
 
-// A last sale of 0 stands for none.
+// A last sale of 0 stands for none, in the day line, in the rules and in every definition: an Option would be made of it and unmade
+// again at each.
 pub fn is_last_sale(last_sale: u32) -> bool
     ensures { result ≡ is_last_sale last_sale }
 {

@@ -1,4 +1,4 @@
-// What may become of an order of the roll.
+// What may become of an order of the roll. A value and no closure: contracts and definitions name it, and no other change can be made.
 ghost use Rattle.std.specs.Prelude.{◌≡◌};
 ghost use Rattle.market.specs.Changes.{allowed, does};
 

@@ -1,8 +1,12 @@
 // Files of records kept in order of precedence, written once for every kind of record.
-// A file is the first `held` slots of a slice; what lies behind them is free.
-ghost use Rattle.std.specs.Prelude.{◌≡◌, ◌+◌, ◌-◌, ◌<◌, ◌≤◌, Bool, ◌&&◌, [], ◌∷◌, ◌++◌, length, take, drop, is_some, IfSome, is_ok, Some, MatchOption, MatchResult, OnOk, OnSome, nat_le, nat_lt};
+// A file is a vector of a fixed capacity; or, where a caller lends the slots, as memory is fixed, the first `held` slots of a slice,
+// with the count beside: what lies behind them is free. Of the two that do so, `insert` is
+// public and stays beside `remove_at`, though no file in lent slots has to file in order today.
+ghost use Rattle.std.specs.Prelude.{◌≡◌, ◌+◌, ◌-◌, ◌<◌, ◌≤◌, Bool, ◌&&◌, [], ◌∷◌, ◌++◌, length, take, drop, is_some, IfSome, IfOk, is_ok, Some, MatchOption, MatchResult, OnOk, OnErr, OnSome, nat_le, nat_lt};
 ghost use Rattle.std.specs.List.{remove, slice_get};
 ghost use Rattle.market.specs.Files.{Strict, filed, ahead, Filing, Removal};
+
+use arrayvec::ArrayVec;
 
 // There is no free slot.
 #[derive(Clone, Copy)]
@@ -32,6 +36,22 @@ pub fn insert<T: Ranked>(file: &mut [T], held: usize, newcomer: T) -> Result<usi
     Ok(put_in(file, held, newcomer))
 }
 
+// The same of a file that is a vector of a fixed capacity.
+pub fn insert_in_order<T: Ranked, const N: usize>(
+    file: &mut ArrayVec<T, N>,
+    newcomer: T,
+) -> Result<usize, Full>
+    ensures room { is_ok result ≡ nat_lt (length file.old.items) N }
+    ensures place { IfOk result (λ at. at ≡ ahead T.before newcomer file.old.items) }
+    ensures file { OnOk result (file.new.items ≡ filed T.before newcomer file.old.items) }
+    ensures lawful { OnOk result (Filing T.before newcomer file.old.items file.new.items) }
+    ensures full { OnErr result (file.new ≡ file.old) }
+{
+    let at = place_of(file.as_slice(), &newcomer);
+    file.try_insert(at, newcomer).map_err(|_| Full)?;
+    Ok(at)
+}
+
 // Takes the record at a place out of the file and closes the gap; the freed slot keeps the record taken.
 // Where the file has no such place, or would be longer than the slots, nothing is taken and it stays as it is.
 pub fn remove_at<T: Copy>(file: &mut [T], held: usize, at: usize) -> Option<T>
@@ -46,17 +66,13 @@ pub fn remove_at<T: Copy>(file: &mut [T], held: usize, at: usize) -> Option<T>
     Some(take_out(file, held, at))
 }
 
-// How many records of a file stand ahead of a newcomer.
+// How many records of a file stand ahead of a newcomer. From the front, and by no binary search: what is promised holds of a file in
+// any order.
 fn place_of<T: Ranked>(file: &[T], newcomer: &T) -> usize
     ensures place { result ≡ ahead T.before newcomer.now file.now }
     ensures within { result ≤ length file.now }
 {
-    for (i, y) in file.iter().enumerate() {
-        if newcomer.precedes(y) {
-            return i;
-        }
-    }
-    file.len()
+    file.iter().take_while(|y| !newcomer.precedes(y)).count()
 }
 
 fn put_in<T: Ranked>(file: &mut [T], held: usize, newcomer: T) -> usize

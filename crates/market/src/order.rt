@@ -1,10 +1,20 @@
 // An order of the roll, changed only through its own methods.
 ghost use Rattle.std.specs.Prelude.{◌≡◌};
+ghost use Rattle.market.specs.Changes.{blank};
 ghost use Rattle.market.specs.Orders.{enter, adds_up, can_fill, try_fill, try_cancel, put, rests_on, in_limit, reaches};
 ghost use Rattle.market.specs.declared.words.Place.TheVariants.{Book, Line, StopFile};
 
 use crate::range::within;
 use crate::words::{Kind, Order, Place, Range, Side};
+
+// What stands where there is no order.
+impl Default for Order {
+    ghost is_default = { λ order. order ≡ blank };
+
+    fn default() -> Order {
+        Order::new(0, 0, Side::Buy, Kind::Limit, 0, 0)
+    }
+}
 
 impl Order {
     // An order as it is accepted: all shares open, and nowhere yet.
@@ -29,7 +39,8 @@ impl Order {
     pub fn adds_up(&self) -> bool
         ensures { result ≡ adds_up self.now }
     {
-        self.filled as u64 + self.cancelled as u64 + self.open as u64 == self.accepted as u64
+        u64::from(self.filled) + u64::from(self.cancelled) + u64::from(self.open)
+            == u64::from(self.accepted)
     }
 
     // Fills some of the open shares; an order with nothing open is nowhere.
@@ -90,7 +101,7 @@ impl Order {
     pub fn rests_on(&self, side: Side) -> bool
         ensures { result ≡ rests_on side self.now }
     {
-        self.place == Place::Book && self.side.same(side)
+        self.place == Place::Book && self.side == side
     }
 
     // Whether a price of the opposite side is within the limit.

@@ -1,6 +1,6 @@
 // The opposite of a side, and which of two prices is better on a side.
 ghost use Rattle.std.specs.Prelude.{◌≡◌};
-ghost use Rattle.market.specs.Sides.{opposite, same_side, better, as_good};
+ghost use Rattle.market.specs.Sides.{opposite, same_side, better, as_good, precedence};
 
 use crate::words::Side;
 
@@ -14,6 +14,7 @@ impl Side {
         }
     }
 
+    // What == answers, in the word of the definitions: public, so it stays.
     pub fn same(self, other: Side) -> bool
         ensures { result ≡ same_side self other }
     {
@@ -38,5 +39,13 @@ impl Side {
             Side::Buy => price >= other,
             Side::Sell => price <= other,
         }
+    }
+
+    // Whether a price with an order number comes before another of this side: the better price first, and at one price the order that
+    // came first, which has the lower number.
+    pub fn ranks_before(self, place: (u32, u32), other: (u32, u32)) -> bool
+        ensures { result ≡ precedence self place.0 place.1 other.0 other.1 }
+    {
+        self.better(place.0, other.0) || (place.0 == other.0 && place.1 < other.1)
     }
 }

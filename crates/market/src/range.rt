@@ -1,5 +1,6 @@
 // The range of prices at which orders execute automatically.
-ghost use Rattle.std.specs.Prelude.{◌≡◌, ◌<◌, ◌≤◌, true, IfSome};
+ghost use Rattle.std.specs.Prelude.{◌≡◌, ◌<◌, ◌≤◌, true, IfSome, nat_lt, length};
+ghost use Rattle.std.specs.List.{prefix_len};
 ghost use Rattle.market.specs.Ranges.{holds, in_range, bands, band_of, row_of, column_of, value_in, range_around, Examples};
 
 use crate::bounds::{is_class, is_price};
@@ -11,11 +12,14 @@ const VALUES: [[[u32; 2]; 6]; 2] = [
     [[5, 10], [10, 20], [10, 25], [25, 50], [50, 100], [100, 200]],
 ];
 
+// Where each band but the last ends.
+const BAND_TOPS: [u32; 5] = [999, 2_499, 4_999, 9_999, 14_999];
+
 impl Range {
     pub fn holds(self, price: u32) -> bool
         ensures { result ≡ holds self price }
     {
-        self.low <= price && price <= self.high
+        (self.low..=self.high).contains(&price)
     }
 }
 
@@ -23,10 +27,7 @@ impl Range {
 pub fn within(range: Option<Range>, price: u32) -> bool
     ensures { result ≡ in_range range price }
 {
-    match range {
-        None => true,
-        Some(range) => range.holds(price),
-    }
+    range.is_none_or(|range| range.holds(price))
 }
 
 // The range around a last sale. There is none without a last sale (0),
@@ -65,26 +66,18 @@ fn band(last_sale: u32) -> usize
     ensures band { result ≡ band_of last_sale bands }
     ensures there { result < 6 }
 {
-    if last_sale <= 999 {
-        0
-    } else if last_sale <= 2499 {
-        1
-    } else if last_sale <= 4999 {
-        2
-    } else if last_sale <= 9999 {
-        3
-    } else if last_sale <= 14_999 {
-        4
-    } else {
-        5
-    }
+    ends_below(&BAND_TOPS, last_sale)
+}
+
+fn ends_below(tops: &[u32], last_sale: u32) -> usize
+    ensures below { result ≡ prefix_len (λ top. nat_lt top last_sale) tops.now }
+    ensures within { result ≤ length tops.now }
+{
+    tops.iter().take_while(|top| **top < last_sale).count()
 }
 
 fn column_at(column: Column) -> usize
     ensures { result ≡ column_of column }
 {
-    match column {
-        Column::Lower => 0,
-        Column::Higher => 1,
-    }
+    column as usize
 }

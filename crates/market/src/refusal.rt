@@ -5,52 +5,36 @@ ghost use Rattle.market.specs.Refusals.{number_of};
 #[derive(Clone, Copy)]
 pub enum Refusal {
     // the class is not 1 to 3
-    Class,
+    Class = 31,
     // the column is neither the lower nor the higher one
-    Column,
+    Column = 32,
     // the last sale is above the highest price
-    LastSale,
-    Price,
-    Shares,
+    LastSale = 33,
+    Price = 41,
+    Shares = 42,
     // the roll holds as many orders as it can
-    RollFull,
+    RollFull = 43,
     // the tape has too few free lines for what the call may print
-    TapeShort,
+    TapeShort = 44,
     // an order loaded before the opening would lock or cross the book
-    LocksBook,
-    StopFileFull,
-    Member,
+    LocksBook = 45,
+    StopFileFull = 46,
+    Member = 47,
     // no order of the roll has that number
-    NoSuchOrder,
+    NoSuchOrder = 51,
     // the order is another member's
-    OtherMember,
+    OtherMember = 52,
     // the order has no open shares
-    NothingOpen,
+    NothingOpen = 53,
     // a floor price below the best bid or above the best offer
-    OutsideQuote,
-    NotPaused,
+    OutsideQuote = 61,
+    NotPaused = 71,
 }
 
 impl Refusal {
     pub fn number(self) -> u32
         ensures { result ≡ number_of self }
     {
-        match self {
-            Refusal::Class => 31,
-            Refusal::Column => 32,
-            Refusal::LastSale => 33,
-            Refusal::Price => 41,
-            Refusal::Shares => 42,
-            Refusal::RollFull => 43,
-            Refusal::TapeShort => 44,
-            Refusal::LocksBook => 45,
-            Refusal::StopFileFull => 46,
-            Refusal::Member => 47,
-            Refusal::NoSuchOrder => 51,
-            Refusal::OtherMember => 52,
-            Refusal::NothingOpen => 53,
-            Refusal::OutsideQuote => 61,
-            Refusal::NotPaused => 71,
-        }
+        self as u32
     }
 }

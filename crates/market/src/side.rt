@@ -33,11 +33,11 @@ pub trait BookSide: Copy {
 }
 
 // Where buys rest: the higher price is better.
-#[derive(Clone, Copy)]
+#[derive(Clone, Copy, Default)]
 pub struct Bids;
 
 // Where sells rest: the lower price is better.
-#[derive(Clone, Copy)]
+#[derive(Clone, Copy, Default)]
 pub struct Offers;
 
 impl BookSide for Bids {
@@ -65,7 +65,7 @@ impl BookSide for Offers {
 }
 
 // The place of a resting order in the book of side S.
-#[derive(Clone, Copy)]
+#[derive(Clone, Copy, Default)]
 pub struct Resting<S> {
     pub price: u32,
     pub number: u32,
@@ -79,7 +79,6 @@ impl<S: BookSide> Ranked for Resting<S> {
     ghost strict = { resting_strict S.BookSide.side (λ x. x.price) (λ x. x.number) };
 
     fn precedes(&self, other: &Resting<S>) -> bool {
-        S::better(self.price, other.price)
-            || (self.price == other.price && self.number < other.number)
+        S::side().ranks_before((self.price, self.number), (other.price, other.number))
     }
 }

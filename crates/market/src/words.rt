@@ -8,7 +8,7 @@ pub enum Side {
 }
 
 // What an order asks for.
-#[derive(Clone, Copy)]
+#[derive(Clone, Copy, PartialEq, Eq)]
 pub enum Kind {
     Limit,
     Market,
@@ -39,13 +39,23 @@ pub struct Order {
     pub member: u32,
     pub side: Side,
     pub kind: Kind,
-    // limit or stop price; 0 for a market order
+    // limit or stop price; 0 for a market order, as in every definition: an Option would be made of it and unmade again at each
     pub price: u32,
     pub accepted: u32,
     pub filled: u32,
     pub cancelled: u32,
     pub open: u32,
     pub place: Place,
+}
+
+// What a limit, an immediate-or-cancel or a stop order asks for.
+#[derive(Clone, Copy)]
+pub struct PricedOrder {
+    pub side: Side,
+    pub member: u32,
+    // limit or stop price
+    pub price: u32,
+    pub shares: u32,
 }
 
 // A stop order as a stop file holds it.
@@ -67,7 +77,7 @@ pub struct Range {
 // A line of the tape.
 #[derive(Clone, Copy)]
 pub enum TapeLine {
-    // an execution of the order run, with the range in force, 0 and 0 without one
+    // an execution of the order run, with the range in force, 0 and 0 without one: as it is printed
     Print {
         order: u32,
         price: u32,

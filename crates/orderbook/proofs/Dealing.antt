@@ -1,12 +1,14 @@
 -- A print dealt out through the table, one row after the other, and over the roll: the same.
-use Rattle.std.proofs.Common.{◌≡◌, ℕ, zero, suc, ◌+◌, ◌-◌, ◌<◌, ◌≤◌, Bool, true, false, cond, ◌&&◌, eqb, List, [], ◌∷◌, map, length, get_or, drop, set, sym, refl, ap, ◌∙◌, subst, ⊎_elim, arith}
+use Rattle.std.proofs.Common.{◌≡◌, ℕ, zero, suc, ◌+◌, ◌-◌, ◌<◌, ◌≤◌, Bool, true, false, cond, ◌&&◌, eqb, ◌⊎◌, List, [], ◌∷◌, ◌++◌, map, length, get_or, drop, set, sym, refl, ap, ◌∙◌, subst, ⊎_elim, arith}
 use Rattle.std.specs.List.{AllZip, AllByRecursion}
-use Rattle.std.proofs.lemmas.List.{drop_more, drop_all, length-set, get_or-set_other}
-use Rattle.std.proofs.lemmas.Bool.{both_ways, cases_lt, eq-eqb, ne_eqb, lt-ltb, le-leb, and_from}
+use Rattle.std.proofs.ByRecursion.{All-weaker}
+use Rattle.std.proofs.lemmas.List.{length-set, get_or-set_other}
+use Rattle.std.proofs.lemmas.Bool.{both_ways, eq-eqb, ne_eqb, lt-ltb, le-leb, and_from}
 use Rattle.std.proofs.lemmas.Bool.Decides.{nat_tests}
 use Rattle.market.specs.declared.words.Side.{Side}
 use Rattle.market.specs.declared.words.Side.TheVariants.{Buy, Sell}
 use Rattle.market.specs.declared.words.Order.{Order}
+use Rattle.market.specs.declared.side.Resting.{Resting}
 use Rattle.market.specs.declared.change.Change.TheVariants.{Fill}
 use Rattle.market.specs.Files.{filed}
 use Rattle.market.specs.Sides.{better, as_good}
@@ -17,20 +19,13 @@ use Rattle.replay.specs.Rolls.{alter, here}
 use Rattle.replay.specs.Book.{row}
 use Rattle.replay.specs.Moves.{gift, after, dealt, deal}
 use Rattle.replay.specs.RollHolds.{Numbered}
-use Rattle.orderbook.specs.Sorted.{Key, precedes, key_of, before, rested, book, Sums, Sound}
-use Rattle.orderbook.proofs.Sorting.{Sorted, sorted_book, all_book, all_read, above_book, Read, level_apart, level_as_good, row_book, behind}
+use Rattle.orderbook.specs.Sorted.{Key, precedes, key_of, before, rested, book, Sums, Sound, Tied}
+use Rattle.orderbook.specs.Tables.{keys}
+use Rattle.orderbook.proofs.Sorting.{better_good, better_level, not_better_stays, none_those, Sorted, sorted_book, all_book, all_read, above_book, Read, level_apart, level_as_good, row_book, behind}
 use Rattle.orderbook.proofs.Lookup.{alter_from}
 
 -- prices -----------------------------------------------------------------------------------------------------------------
-pub better_good : (c : Side) (x p : ℕ) → as_good c x p ≡ false → better c x p ≡ false
-better_good Buy x p h = grind (arith, nat_tests)
-better_good Sell x p h = grind (arith, nat_tests)
-
-better_level : (c : Side) (x p : ℕ) → better c x p ≡ true → eqb x p ≡ false
-better_level Buy x p h = grind (arith, nat_tests)
-better_level Sell x p h = grind (arith, nat_tests)
-
-pub good_level : (c : Side) (x p : ℕ) → as_good c x p ≡ true → better c x p ≡ false → eqb x p ≡ true
+good_level : (c : Side) (x p : ℕ) → as_good c x p ≡ true → better c x p ≡ false → eqb x p ≡ true
 good_level Buy x p h e = grind (arith, nat_tests)
 good_level Sell x p h e = grind (arith, nat_tests)
 
@@ -145,7 +140,7 @@ pub record Dealing (c : Side) (p : ℕ) (t : List Order) (gs : List ℕ) (os who
   pub fits : AllZip (λ g n. g ≤ n) gs (map (λ o. o.«open») (those (λ o. eqb o.price p) t))
   pub numbered : Numbered 1 os
 
-pub dealing : (c : Side) (p : ℕ) (os : List Order) (gs : List ℕ) → Sound os → AllZip (λ g n. g ≤ n) gs (row c p os) → Dealing c p (book c os) gs os (deal c p os gs)
+dealing : (c : Side) (p : ℕ) (os : List Order) (gs : List ℕ) → Sound os → AllZip (λ g n. g ≤ n) gs (row c p os) → Dealing c p (book c os) gs os (deal c p os gs)
 dealing c p os gs s f = record {
   same = applied_book c p 1 os gs s.numbered;
   ordered = sorted_book c 1 os s.numbered;
@@ -211,12 +206,12 @@ module _ {c : Side} {p : ℕ} {x : Order} {t : List Order} {gs : List ℕ} {os w
   row_is : (a : Bool) → eqb x.price p ≡ a → AllZip (λ g n. g ≤ n) gs (map (λ o. o.«open») (kept a x (those (λ o. eqb o.price p) t)))
   row_is a e = subst (λ b. AllZip (λ g n. g ≤ n) gs (map (λ o. o.«open») (kept b x (those (λ o. eqb o.price p) t)))) e d.fits
 
-  pub deal_better : (us : List Order) (q : ℕ) → better c x.price p ≡ true → q ≡ x.«open» → us ≡ does_at (Fill q) (x.number - 1) os → Dealing c p t gs us whole
+  deal_better : (us : List Order) (q : ℕ) → better c x.price p ≡ true → q ≡ x.«open» → us ≡ does_at (Fill q) (x.number - 1) os → Dealing c p t gs us whole
   deal_better us q h e i =
       let off : eqb x.price p ≡ false = better_level c x.price p h in
       step q gs us (omega (arith, e)) (ap (λ b. dealt b (eqb x.price p) gs x) h ∙ ap (λ n. fill n x) (sym e)) (ap (λ b. after b gs) off) (row_is false off) i
 
-  pub deal_at : (us : List Order) (g : ℕ) (gs' : List ℕ) → better c x.price p ≡ false → eqb x.price p ≡ true → gs ≡ g ∷ gs' → us ≡ does_at (Fill g) (x.number - 1) os → Dealing c p t gs' us whole
+  deal_at : (us : List Order) (g : ℕ) (gs' : List ℕ) → better c x.price p ≡ false → eqb x.price p ≡ true → gs ≡ g ∷ gs' → us ≡ does_at (Fill g) (x.number - 1) os → Dealing c p t gs' us whole
   deal_at us g gs' h j e i =
       let z : AllZip (λ g n. g ≤ n) (g ∷ gs') (x.«open» ∷ map (λ o. o.«open») (those (λ o. eqb o.price p) t)) =
       subst (λ l. AllZip (λ g n. g ≤ n) l (x.«open» ∷ map (λ o. o.«open») (those (λ o. eqb o.price p) t))) e (row_is true j) in
@@ -224,24 +219,70 @@ module _ {c : Side} {p : ℕ} {x : Order} {t : List Order} {gs : List ℕ} {os w
       (ap (λ b. dealt b (eqb x.price p) gs x) h ∙ ap (λ b. dealt false b gs x) j ∙ ap (λ l. fill (gift l) x) e)
       (ap (λ b. after b gs) j ∙ ap (after true) e) z.1 i
 
-  -- there is a gift for an order at the price
-  pub gift_there : (us : List ℕ) (k : ℕ) → eqb x.price p ≡ true → gs ≡ drop k us → k < length us
-  gift_there us k j e =
-      ⊎_elim
-      (λ (lt : k < length us). lt)
-      (λ (le : length us ≤ k). absurd (subst (λ l. AllZip (λ g n. g ≤ n) l (x.«open» ∷ map (λ o. o.«open») (those (λ o. eqb o.price p) t))) (e ∙ drop_all k us le) (row_is true j)))
-      (cases_lt k (length us))
+  no_gifts : gs ≡ [] → as_good c x.price p ≡ true → better c x.price p ≡ false → ⊥
+  no_gifts e h n =
+      subst (λ l. AllZip (λ g n. g ≤ n) l (x.«open» ∷ map (λ o. o.«open») (those (λ o. eqb o.price p) t))) e (row_is true (good_level c x.price p h n))
 
-  pub deal_stop : as_good c x.price p ≡ false → os ≡ whole
+  gift_unasked : (g : ℕ) (gs' : List ℕ) → gs ≡ g ∷ gs' → as_good c x.price p ≡ false → ⊥
+  gift_unasked g gs' e h =
+      let none : those (λ o. eqb o.price p) (x ∷ t) ≡ [] =
+      none_those (λ o. eqb o.price p) (x ∷ t) (All-weaker (λ o. as_good c o.price p ≡ false) (λ o. eqb o.price p ≡ false) (λ o. level_as_good c o.price p) (x ∷ t) (behind c p x t d.ordered h)) in
+      subst (λ l. AllZip (λ g n. g ≤ n) l []) e (subst (λ l. AllZip (λ g n. g ≤ n) gs (map (λ o. o.«open») l)) none d.fits)
+
+  deal_stop : as_good c x.price p ≡ false → os ≡ whole
   deal_stop e = sym (applied_none c p (x ∷ t) gs os (behind c p x t d.ordered e)) ∙ d.same
 
-  pub deal_open : get_or os (x.number - 1) blank ≡ x
-  deal_open = d.reads.0.is
+-- row by row ---------------------------------------------------------------------------------------------------------------
+-- the orders of some rows are filled in turn, as far as there are shares for them
+abbrev pub each_filled : {S : Type 0} → List (Resting S) → List ℕ → List Order → List Order
+each_filled [] qs os = os
+each_filled (e ∷ es) [] os = os
+each_filled (e ∷ es) (q ∷ qs) os = each_filled es qs (does_at (Fill q) (e.number - 1) os)
 
--- the first of the rows from i on
-pub dealing_at : {c : Side} {p : ℕ} (b : List Order) {gs : List ℕ} {os whole : List Order} (i : ℕ) → i < length b → Dealing c p (drop i b) gs os whole → Dealing c p (get_or b i blank ∷ drop (i + 1) b) gs os whole
-dealing_at {c} {p} b {gs} {os} {whole} i lt d = subst (λ l. Dealing c p l gs os whole) (drop_more b i blank lt) d
+-- no row is left, or no shares
+pub each_done : {S : Type 0} (es : List (Resting S)) (qs : List ℕ) (os : List Order) → (length es ≡ 0) ⊎ (length qs ≡ 0) → os ≡ each_filled es qs os
+each_done [] qs os h = refl
+each_done (e ∷ es) [] os h = refl
+each_done (e ∷ es) (q ∷ qs) os h = ⊎_elim (λ (e : suc (length es) ≡ 0). absurd (omega arith)) (λ (e : suc (length qs) ≡ 0). absurd (omega arith)) h
 
-pub deal_end : {c : Side} {p : ℕ} (b : List Order) {gs : List ℕ} {os whole : List Order} (i : ℕ) → length b ≤ i → Dealing c p (drop i b) gs os whole → os ≡ whole
+-- what is so of the rows behind
+abbrev Behind : {S : Type 0} → Side → ℕ → List (Resting S) → List Order → List Order → Type 0
+Behind c p es t whole = (gs : List ℕ) (us : List Order) → Dealing c p t gs us whole → each_filled es (map (λ o. o.«open») (those (λ o. better c o.price p) t) ++ gs) us ≡ whole
+
+dealt_each : {S : Type 0} (c : Side) (p : ℕ) (es : List (Resting S)) (t : List Order) (gs : List ℕ) (os whole : List Order) → keys es ≡ map key_of t → Dealing c p t gs os whole
+    → each_filled es (map (λ o. o.«open») (those (λ o. better c o.price p) t) ++ gs) os ≡ whole
 unfolding applied
-deal_end {c} {p} b {gs} {os} {whole} i le d = ap (λ l. applied c p l gs os) (sym (drop_all i b le)) ∙ d.same
+dealt_each c p [] [] gs os whole k d = d.same
+dealt_each c p [] (x ∷ t) gs os whole k d = absurd (let z : ◌≡◌ {A = ℕ} 0 1 = omega (arith, ap length k) in omega arith)
+dealt_each c p (e ∷ es) [] gs os whole k d = absurd (let z : ◌≡◌ {A = ℕ} 0 1 = omega (arith, ap length k) in omega arith)
+dealt_each {S} c p (e ∷ es) (x ∷ t) gs os whole k d = go (better c x.price p) refl (λ gs' us. dealt_each c p es t gs' us whole (ap (drop 1) k))
+  where
+    number : e.number ≡ x.number
+    number = ap number_of k
+      where
+        number_of : List Key → ℕ
+        number_of [] = 0
+        number_of (k ∷ ks) = k.number
+
+    filled : (q : ℕ) → does_at (Fill q) (e.number - 1) os ≡ does_at (Fill q) (x.number - 1) os
+    filled q = ap (λ n. does_at (Fill q) (n - 1) os) number
+
+    behind_better : better c x.price p ≡ false → those (λ o. better c o.price p) t ≡ []
+    behind_better h = none_those (λ o. better c o.price p) t (All-weaker (λ u. before c x u ≡ true) (λ u. better c u.price p ≡ false) (λ u b. not_better_stays c (key_of x) (key_of u) p b h) t d.ordered.0)
+
+    stopped : better c x.price p ≡ false → (gs' : List ℕ) → gs ≡ gs' → (b : Bool) → as_good c x.price p ≡ b → Behind c p es t whole → each_filled (e ∷ es) gs' os ≡ whole
+    stopped h [] i true j ih = absurd (no_gifts d i j h)
+    stopped h [] i false j ih = deal_stop d j
+    stopped h (g ∷ gs') i false j ih = absurd (gift_unasked d g gs' i j)
+    stopped h (g ∷ gs') i true j ih =
+        ap (λ l. each_filled es (map (λ o. o.«open») l ++ gs') (does_at (Fill g) (e.number - 1) os)) (sym (behind_better h))
+        ∙ ih gs' (does_at (Fill g) (e.number - 1) os) (deal_at d (does_at (Fill g) (e.number - 1) os) g gs' h (good_level c x.price p j h) i (filled g))
+
+    go : (b : Bool) → better c x.price p ≡ b → Behind c p es t whole → each_filled (e ∷ es) (map (λ o. o.«open») (kept b x (those (λ o. better c o.price p) t)) ++ gs) os ≡ whole
+    go true h ih = ih gs (does_at (Fill x.«open») (e.number - 1) os) (deal_better d (does_at (Fill x.«open») (e.number - 1) os) x.«open» h refl (filled x.«open»))
+    go false h ih = ap (λ l. each_filled (e ∷ es) (map (λ o. o.«open») l ++ gs) os) (behind_better h) ∙ stopped h gs refl (as_good c x.price p) refl ih
+
+-- the rows of a table
+pub table_dealt : {S : Type 0} (c : Side) (p : ℕ) (es : List (Resting S)) (gs : List ℕ) (os : List Order) → Tied c os (keys es) → AllZip (λ g n. g ≤ n) gs (row c p os)
+    → each_filled es (map (λ o. o.«open») (those (λ o. better c o.price p) (book c os)) ++ gs) os ≡ deal c p os gs
+table_dealt c p es gs os k f = dealt_each c p es (book c os) gs os (deal c p os gs) k.shows (dealing c p os gs k.sound f)

@@ -1,17 +1,15 @@
 -- Questions that the first order of a side decides.
-use Rattle.std.proofs.Common.{◌≡◌, ℕ, Bool, true, false, cond, ◌&&◌, ◌||◌, ltb, ◌⊎◌, List, [], ◌∷◌, Some, None, Option, sym, refl, ap, ◌∙◌, ⊎_elim}
+use Rattle.std.proofs.Common.{◌≡◌, ℕ, Bool, true, false, cond, ◌&&◌, ◌||◌, List, [], ◌∷◌, Some, None, Option, sym, refl, ap, ◌∙◌}
 use Rattle.std.specs.List.{AllByRecursion}
 use Rattle.std.proofs.ByRecursion.{All-weaker}
 use Rattle.market.specs.declared.words.Side.{Side}
-use Rattle.market.specs.declared.words.Side.TheVariants.{Buy, Sell}
 use Rattle.market.specs.declared.words.Kind.{Kind}
 use Rattle.market.specs.declared.words.Kind.TheVariants.{Limit, Market, ImmediateOrCancel, Stop}
 use Rattle.market.specs.declared.words.Order.{Order}
 use Rattle.market.specs.Files.{filed}
-use Rattle.market.specs.Sides.{opposite}
+use Rattle.market.specs.Sides.{opposite, better}
 use Rattle.market.specs.Orders.{rests_on, within_limit, in_limit}
 use Rattle.replay.specs.Lists.{any}
-use Rattle.replay.specs.Rolls.{price_of}
 use Rattle.replay.specs.Book.{best, prices, is_contra}
 use Rattle.replay.specs.Calls.{resting_at}
 use Rattle.orderbook.specs.Sorted.{key_of, before, rested, book, first_of, price_in, Sound}
@@ -68,11 +66,8 @@ rests_first : (c : Side) (t : ℕ → Bool) → ((a b : Order) → before c a b 
     → first_is t (first_of (book c os)) ≡ any (λ o. rests_on c o && t o.price) os
 rests_first c t k {os} s = sym (any_first c t k (book c os) (sorted_book c 1 os s.numbered)) ∙ sym (any_book c (λ o. t o.price) os)
 
-pub below_first : (p : ℕ) {os : List Order} → Sound os → (r : Option Order) → r ≡ first_of (book Buy os) → first_is (λ b. ltb p b) r ≡ resting_at (λ b. ltb p b) Buy os
-below_first p s r e = ap (first_is (λ b. ltb p b)) e ∙ rests_first Buy (λ b. ltb p b) (λ a b h f. not_better_stays Buy (key_of a) (key_of b) p h f) s
-
-pub above_first : (p : ℕ) {os : List Order} → Sound os → (r : Option Order) → r ≡ first_of (book Sell os) → first_is (λ b. ltb b p) r ≡ resting_at (λ b. ltb b p) Sell os
-above_first p s r e = ap (first_is (λ b. ltb b p)) e ∙ rests_first Sell (λ b. ltb b p) (λ a b h f. not_better_stays Sell (key_of a) (key_of b) p h f) s
+pub behind_first : (c : Side) (p : ℕ) {os : List Order} → Sound os → (r : Option Order) → r ≡ first_of (book c os) → first_is (λ b. better c b p) r ≡ resting_at (λ b. better c b p) c os
+behind_first c p s r e = ap (first_is (λ b. better c b p)) e ∙ rests_first c (λ b. better c b p) (λ a b h f. not_better_stays c (key_of a) (key_of b) p h f) s
 
 limit_stays : (r a b : Order) → before (opposite r.side) a b ≡ true → in_limit r a.price ≡ false → in_limit r b.price ≡ false
 limit_stays r a b h e = go r.kind e
@@ -85,8 +80,3 @@ limit_stays r a b h e = go r.kind e
 
 pub meets_first : (r : Order) {os : List Order} → Sound os → (c : Side) (x : Option Order) → c ≡ opposite r.side → x ≡ first_of (book c os) → first_is (in_limit r) x ≡ any (is_contra r) os
 meets_first r {os} s c x e f = ap (first_is (in_limit r)) (f ∙ ap (λ d. first_of (book d os)) e) ∙ rests_first (opposite r.side) (in_limit r) (limit_stays r) s
-
-pub own_price : (k : Kind) (p : ℕ) → (k ≡ Limit) ⊎ ((k ≡ ImmediateOrCancel) ⊎ (k ≡ Stop)) → p ≡ price_of k p
-own_price k p h =
-    ⊎_elim (λ (e : k ≡ Limit). ap (λ x. price_of x p) (sym e))
-    (λ (h : (k ≡ ImmediateOrCancel) ⊎ (k ≡ Stop)). ⊎_elim (λ (e : k ≡ ImmediateOrCancel). ap (λ x. price_of x p) (sym e)) (λ (e : k ≡ Stop). ap (λ x. price_of x p) (sym e)) h) h

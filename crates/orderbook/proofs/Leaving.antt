@@ -67,11 +67,11 @@ pub stays_trans : (c : Side) (o u v : Order) → Stays c o u → Stays c u v →
 stays_trans c o u v a b = record { key = b.key ∙ a.key; same = b.same ∙ a.same }
 
 -- what every roll keeps -----------------------------------------------------------------------------------------------
-numbered_alike : (k : ℕ) (os us : List Order) → AllZip Alike os us → Numbered k os → Numbered k us
-numbered_alike k [] [] z h = tt
-numbered_alike k [] (u ∷ us) z h = absurd z
-numbered_alike k (o ∷ os) [] z h = absurd z
-numbered_alike k (o ∷ os) (u ∷ us) z h = (ap (λ (x : Key). x.number) z.0.key ∙ h.0, numbered_alike (suc k) os us z.1 h.1)
+pub numbered_along : (R : Order → Order → Type 0) → ((o u : Order) → R o u → key_of u ≡ key_of o) → (k : ℕ) (os us : List Order) → AllZip R os us → Numbered k os → Numbered k us
+numbered_along R same k [] [] z h = tt
+numbered_along R same k [] (u ∷ us) z h = absurd z
+numbered_along R same k (o ∷ os) [] z h = absurd z
+numbered_along R same k (o ∷ os) (u ∷ us) z h = (ap (λ (x : Key). x.number) (same o u z.0) ∙ h.0, numbered_along R same (suc k) os us z.1 h.1)
 
 sums_alike : (os us : List Order) → AllZip Alike os us → AllByRecursion Sums os → AllByRecursion Sums us
 sums_alike [] [] z h = tt
@@ -80,7 +80,7 @@ sums_alike (o ∷ os) [] z h = absurd z
 sums_alike (o ∷ os) (u ∷ us) z h = (z.0.sums h.0, sums_alike os us z.1 h.1)
 
 pub sound_alike : (os us : List Order) → AllZip Alike os us → Sound os → Sound us
-sound_alike os us z s = record { numbered = numbered_alike 1 os us z s.numbered; few = omega (arith, length_all_zip Alike os us z, s.few); sums = sums_alike os us z s.sums }
+sound_alike os us z s = record { numbered = numbered_along Alike (λ o u a. a.key) 1 os us z s.numbered; few = omega (arith, length_all_zip Alike os us z, s.few); sums = sums_alike os us z s.sums }
 
 -- the book of a roll of which fewer orders rest -----------------------------------------------------------------------
 sorted_keys : (c : Side) (xs : List Order) → Sorted (before c) xs → Sorted (precedes c) (map key_of xs)

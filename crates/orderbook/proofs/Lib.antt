@@ -1,6 +1,7 @@
 pub mod Dealing
 pub mod Filed
 pub mod Firsts
+pub mod Fronts
 pub mod Leaving
 pub mod Lookup
 pub mod Places

@@ -1,6 +1,6 @@
 -- Orders of a roll that is numbered from 1, by number and by place.
-use Rattle.std.proofs.Common.{◌≡◌, ℕ, suc, ◌+◌, ◌-◌, ◌<◌, ◌≤◌, Bool, true, false, cond, ◌&&◌, eqb, List, [], ◌∷◌, ◌++◌, length, get_or, set, Some, None, sym, refl, ap, ◌∙◌, ⊎_elim, arith}
-use Rattle.std.proofs.lemmas.Bool.{eqb-true, eqb-false, eq-eqb, ne_eqb, cases_eq, cases_lt, lt-ltb, le-ltb}
+use Rattle.std.proofs.Common.{◌≡◌, ℕ, suc, ◌+◌, ◌-◌, ◌<◌, ◌≤◌, Bool, true, false, cond, ◌&&◌, eqb, List, [], ◌∷◌, ◌++◌, length, get_or, set, Some, None, Option, not, sym, refl, ap, ◌∙◌, ⊎_elim, arith}
+use Rattle.std.proofs.lemmas.Bool.{not-true, eqb-true, eqb-false, eq-eqb, ne_eqb, cases_eq, cases_lt, lt-ltb, le-ltb}
 use Rattle.std.proofs.ByRecursion.{All-get_or}
 use Rattle.market.specs.declared.words.Order.{Order}
 use Rattle.market.specs.declared.words.Side.{Side}
@@ -15,6 +15,7 @@ use Rattle.market.specs.Orders.{is_book, rests_on, cancel}
 use Rattle.replay.specs.Rolls.{look, found, alter, here, open_of, left}
 use Rattle.replay.specs.RollHolds.{Numbered}
 use Rattle.orderbook.specs.Sorted.{Sums, Sound}
+use Rattle.orderbook.specs.Trades.{is_off}
 
 -- by place ------------------------------------------------------------------------------------------------------------
 pub alter_from : (f : Order → Order) (n k : ℕ) (os : List Order) → Numbered k os → k ≤ n → n < k + length os → alter n f os ≡ set os (n - k) (f (get_or os (n - k) blank))
@@ -166,7 +167,7 @@ not_book Book h = absurd (h refl)
 not_book Line h = refl
 not_book StopFile h = refl
 
-same_self : (c : Side) → same_side c c ≡ true
+pub same_self : (c : Side) → same_side c c ≡ true
 same_self Buy = refl
 same_self Sell = refl
 
@@ -186,19 +187,34 @@ module _ {n : ℕ} {os : List Order} {o : Order} (f : Found n os o) where
   pub price_at : o.price ≡ (get_or os (n - 1) blank).price
   price_at = ap (λ (x : Order). x.price) f.is
 
--- what `!=` says of a place
+-- an order that was found off the book
+pub record OffBook (n : ℕ) (os : List Order) (o : Order) : Type 0 where
+  pub found : Found n os o
+  pub off : is_book o.place ≡ false
 
--- what is read at a place of the roll
-pub order_in : (os : List Order) (i : ℕ) (o : Order) → i < length os → Some o ≡ order_at i os → o ≡ get_or os i blank
-order_in os i o lt e =
-    let f : Some o ≡ Some (get_or os i blank) = e ∙ ap (λ b. cond b (Some (get_or os i blank)) None) (lt-ltb i (length os) lt) in
-    cc
+pub off_some : {os : List Order} → Sound os → (n : ℕ) {r : Option Order} {o : Order} → r ≡ cond (is_off (look n os)) (look n os) None → r ≡ Some o → OffBook n os o
+off_some {os} s n {r} {o} e i = go (look n os) refl (sym e ∙ i)
+  where
+    some : (b : Bool) (u : Order) → cond b (Some u) None ≡ Some o → (b ≡ true) × (u ≡ o)
+    some true u j = (refl, cc)
+    some false u j = absurd (let z : ◌≡◌ {A = ℕ} 0 1 = cc in omega arith)
 
-pub order_out : (os : List Order) (i : ℕ) → None ≡ order_at i os → length os ≤ i
-order_out os i e =
-    ⊎_elim
-    (λ (lt : i < length os).
-    let f : None ≡ Some (get_or os i blank) = e ∙ ap (λ b. cond b (Some (get_or os i blank)) None) (lt-ltb i (length os) lt) in
-    absurd (let z : ◌≡◌ {A = ℕ} 0 1 = cc in omega arith))
-    (λ (le : length os ≤ i). le)
-    (cases_lt i (length os))
+    go : (l : Option Order) → look n os ≡ l → cond (is_off l) l None ≡ Some o → OffBook n os o
+    go None k j = absurd (let z : ◌≡◌ {A = ℕ} 0 1 = cc in omega arith)
+    go (Some u) k j =
+        let t = some (not (is_book u.place)) u j in
+        record { found = look_some s n o (k ∙ ap (λ (x : Order). Some x) t.1); off = ap (λ (x : Order). is_book x.place) (sym t.1) ∙ not-true (is_book u.place) t.0 }
+
+module _ {n : ℕ} {os : List Order} {o : Order} (f : OffBook n os o) where
+  pub off_there : (1 ≤ n) × (n ≤ length os)
+  off_there = there_at f.found
+
+  pub off_off : is_book (get_or os (n - 1) blank).place ≡ false
+  off_off = ap (λ (x : Order). is_book x.place) (sym f.found.is) ∙ f.off
+
+  pub off_side : (c : Side) → o.side ≡ c → (get_or os (n - 1) blank).side ≡ c
+  off_side c e = side_at f.found c e
+
+-- an order that is cancelled
+pub cancelled_some : {os us : List Order} → Sound os → (n : ℕ) {o : Order} → Some o ≡ look n os → us ≡ does_at Cancel (n - 1) os → us ≡ alter n cancel os
+cancelled_some s n {o} e i = let f = look_some s n o (sym e) in i ∙ cancel_at s n f.low f.high

@@ -1,11 +1,9 @@
 -- One order of the roll is changed: what becomes of both tables.
-use Rattle.std.proofs.Common.{◌≡◌, ℕ, suc, ◌+◌, ◌-◌, ◌<◌, ◌≤◌, Bool, true, false, cond, ◌&&◌, eqb, ltb, leb, List, [], ◌∷◌, ◌++◌, map, length, get_or, take, is_ok, IfOk, Some, Ok, Err, filter, Result, sym, refl, ap, ◌∙◌, subst, arith}
-use native.Mathlib.Nat.{sub-zero}
+use Rattle.std.proofs.Common.{◌≡◌, ℕ, suc, ◌+◌, ◌-◌, ◌<◌, ◌≤◌, Bool, true, false, cond, ◌&&◌, eqb, ltb, leb, List, [], ◌∷◌, ◌++◌, map, length, get_or, is_ok, IfOk, Some, Ok, Err, filter, Result, sym, refl, ap, ◌∙◌, subst, arith}
 use Rattle.std.specs.List.{AllZip}
 use Rattle.std.proofs.ByRecursion.{All-push}
 use Rattle.std.proofs.lemmas.List.{length_push, length-map}
-use Rattle.std.proofs.lemmas.Bool.{and_left, and_from, both_ways, false≢true, eqb-true, eqb-false, lt-ltb, le-leb}
-use Rattle.std.proofs.lemmas.Bool.Decides.{nat_tests}
+use Rattle.std.proofs.lemmas.Bool.{and_left, and_right, and_from, both_ways, false≢true, eqb-true, eqb-false, lt-ltb, le-leb}
 use Rattle.market.specs.declared.words.Side.{Side}
 use Rattle.market.specs.declared.words.Side.TheVariants.{Buy, Sell}
 use Rattle.market.specs.declared.words.Place.{Place}
@@ -14,16 +12,16 @@ use Rattle.market.specs.declared.words.Order.{Order}
 use Rattle.market.specs.declared.side.Resting.{Resting}
 use Rattle.market.specs.Files.{filed}
 use Rattle.market.specs.Sides.{opposite, same_side, as_good}
-use Rattle.market.specs.Orders.{enter, is_book, rests_on, put, cancel}
+use Rattle.market.specs.Orders.{is_book, rests_on, put, cancel}
 use Rattle.market.specs.Changes.{blank}
-use Rattle.replay.specs.Rolls.{look, alter, here, price_of, fresh}
+use Rattle.replay.specs.Rolls.{look, alter, here, fresh}
 use Rattle.orderbook.specs.declared.ticket.Ticket.{Ticket}
 use Rattle.orderbook.specs.Trades.{is_off, moved, next, admits}
 use Rattle.replay.specs.RollHolds.{Numbered}
 use Rattle.orderbook.specs.Sorted.{Key, key_of, precedes, rested, book, Sums, Sound, Tied}
 use Rattle.orderbook.specs.Tables.{Kept, key_in, keys, stays}
-use Rattle.orderbook.proofs.Sorting.{map_filed, filed_swap, precedes_trans, precedes_asym, precedes_or, length_filed, length_book}
-use Rattle.orderbook.proofs.Lookup.{alter_at, number_at, look_push, alter_push}
+use Rattle.orderbook.proofs.Sorting.{good_self, map_filed, filed_swap, precedes_trans, precedes_asym, precedes_or, length_filed, length_book}
+use Rattle.orderbook.proofs.Lookup.{same_self, alter_at, number_at, look_push, alter_push}
 use Rattle.orderbook.proofs.Leaving.{Alike, alike_self, Stays, stays_self, Leaves, leaves_self, each_set, sound_alike, filing, tied_kept, tied_still}
 
 -- an empty book -------------------------------------------------------------------------------------------------------
@@ -33,8 +31,9 @@ kept_none =
     let s : Sound [] = record { numbered = tt; few = omega arith; sums = tt } in
     record { bid = record { sound = s; shows = refl }; offer = record { sound = s; shows = refl } }
 
-pub kept_empty : {os : List Order} → os ≡ [] → Kept os [] []
-kept_empty e = subst (λ l. Kept l [] []) (sym e) kept_none
+pub kept_empty : {S T : Type 0} {os : List Order} {b : List (Resting S)} {o : List (Resting T)} → os ≡ [] → b ≡ [] → o ≡ [] → Kept os (keys b) (keys o)
+kept_empty {S} {T} {os} {b} {o} e f g =
+    subst (λ l. Kept l (keys b) (keys o)) (sym e) (subst (λ l. Kept [] (keys l) (keys o)) (sym f) (subst (λ (l : List (Resting T)). Kept [] [] (keys l)) (sym g) kept_none))
 
 -- an order more -------------------------------------------------------------------------------------------------------
 numbered_push : (k : ℕ) (os : List Order) (o : Order) → Numbered k os → o.number ≡ length os + k → Numbered k (os ++ (o ∷ []))
@@ -90,10 +89,6 @@ swapped c x y t lt = go (precedes c x y) refl
     go : (b : Bool) → precedes c x y ≡ b → filed (precedes c) x (filed (precedes c) y t) ≡ filed (precedes c) y (filed (precedes c) x t)
     go true e = filed_swap (precedes c) (precedes_trans c) x y t e (precedes_asym c x y e)
     go false e = let f : precedes c y x ≡ true = precedes_or c x y lt e in sym (filed_swap (precedes c) (precedes_trans c) y x t f (precedes_asym c y x f))
-
-same_self : (c : Side) → same_side c c ≡ true
-same_self Buy = refl
-same_self Sell = refl
 
 other_side : (c : Side) → same_side c (opposite c) ≡ false
 other_side Buy = refl
@@ -166,14 +161,6 @@ pub front_ok : {T E : Type 0} (P : Type 0) (r : Result T E) → is_ok r ≡ true
 front_ok P (Ok x) e h = h
 front_ok P (Err x) e h = absurd (false≢true e)
 
--- a table is as long as the book
-pub long_as : {S : Type 0} (c : Side) (os : List Order) (t : List (Resting S)) → Tied c os (keys t) → length t ≡ length (book c os)
-long_as c os t d = sym (length-map t key_in) ∙ ap length d.shows ∙ length-map (book c os) key_of
-
--- a part that is lent for reading
-pub tied_part : {S : Type 0} (c : Side) (os : List Order) (t : List (Resting S)) (n : ℕ) → Tied c os (keys (take n t)) → Tied c os (keys (take (n - 0) t))
-tied_part c os t n d = subst (λ m. Tied c os (keys (take m t))) (sym (sub-zero n)) d
-
 pub same_key : (x y : Key) → x.price ≡ y.price → x.number ≡ y.number → x ≡ y
 same_key x y p q = λ i. record { price = p i; number = q i }
 
@@ -186,10 +173,6 @@ pub kept_offer : {os us : List Order} {b o o' : List Key} (n : ℕ) → Kept os 
 kept_offer {os} {us} {b} {o} {o'} n k w on off e d = record { bid = subst (λ l. Tied Buy l b) (sym e) (rest_other Sell n k.bid.sound w on off b k.bid); offer = d }
 
 -- an order that rests is cancelled ------------------------------------------------------------------------------------
-good_self : (c : Side) (p : ℕ) → as_good c p p ≡ true
-good_self Buy p = grind (arith, nat_tests)
-good_self Sell p = grind (arith, nat_tests)
-
 pub sides_apart : (c s : Side) (b : Bool) → (b && same_side s c) ≡ true → same_side s (opposite c) ≡ false
 sides_apart Buy Buy b e = refl
 sides_apart Sell Sell b e = refl
@@ -198,15 +181,11 @@ sides_apart Buy Sell false e = absurd (false≢true e)
 sides_apart Sell Buy true e = absurd (false≢true e)
 sides_apart Sell Buy false e = absurd (false≢true e)
 
-pub and_off : (a b : Bool) → b ≡ false → (a && b) ≡ false
-and_off true b e = e
-and_off false b e = refl
-
 -- what rests on c does not rest on the other side, whatever becomes of its place
 pub other_stays : (c : Side) (o u : Order) → key_of u ≡ key_of o → u.side ≡ o.side → rests_on c o ≡ true → Stays (opposite c) o u
 other_stays c o u k s h =
     let f : same_side o.side (opposite c) ≡ false = sides_apart c o.side (is_book o.place) h in
-    record { key = k; same = and_off (is_book u.place) (same_side u.side (opposite c)) (ap (λ x. same_side x (opposite c)) s ∙ f) ∙ sym (and_off (is_book o.place) (same_side o.side (opposite c)) f) }
+    record { key = k; same = and_right (is_book u.place) (same_side u.side (opposite c)) (ap (λ x. same_side x (opposite c)) s ∙ f) ∙ sym (and_right (is_book o.place) (same_side o.side (opposite c)) f) }
 
 module _ (c : Side) (n p : ℕ) {os : List Order} (s : Sound os) (w : (1 ≤ n) × (n ≤ length os)) (on : rests_on c (get_or os (n - 1) blank) ≡ true) (at : p ≡ (get_or os (n - 1) blank).price) where
   strike_sound : Sound (alter n cancel os)
@@ -240,14 +219,6 @@ kept_strike_offer {S} {os} {us} {b} t t' n p k w on at e f =
       bid = strike_other Sell n p k.bid.sound w on at b k.bid;
       offer = strike_tied Sell n p k.bid.sound w on at t t' k.offer (f ∙ ap (λ l. filter (stays Sell p l) t) e);
     })
-
--- the next order, as its ticket has it --------------------------------------------------------------------------------
-pub fresh_is : (t : Ticket) (os : List Order) (len price : ℕ) → len ≡ length os → price ≡ price_of t.kind t.price
-    → enter (len + 1) t.member t.side t.kind price t.shares ≡ next t os
-unfolding fresh
-fresh_is t os len price e f =
-    let n : len + 1 ≡ suc (length os) = omega (arith, e) in
-    ap (λ x. enter x t.member t.side t.kind price t.shares) n ∙ ap (λ x. enter (suc (length os)) t.member t.side t.kind x t.shares) f
 
 pub fresh_number : (t : Ticket) (os : List Order) → (next t os).number ≡ suc (length os)
 unfolding fresh

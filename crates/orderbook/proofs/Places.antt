@@ -1,6 +1,6 @@
--- What the code learns when it compares two places by == or !=.
-use Rattle.std.proofs.Common.{◌≡◌, Bool, true, false, not, sym, refl, ap, ◌∙◌, rules}
-use Rattle.std.proofs.lemmas.Bool.{false≢true, not-true, not-false}
+-- What the code learns when it compares two places, or two kinds, by == or !=.
+use Rattle.std.proofs.Common.{◌≡◌, true, false, sym, refl, ap, ◌∙◌, rules}
+use Rattle.std.proofs.lemmas.Bool.{false≢true}
 use denote.Enum.Bare.{sameb, same_true}
 use Rattle.market.specs.contracts.words.Place.{the_type}
 use Rattle.market.specs.declared.words.Place.{Place}
@@ -17,10 +17,3 @@ same_place w v e = same_true the_type (search rules) w v (sym e)
 
 pub other_place : (w v : Place) → false ≡ sameb the_type w v → w ≡ v → ⊥
 other_place w v e h = absurd (false≢true (e ∙ ap (λ x. sameb the_type x v) h ∙ same_self v))
-
--- the same where the code asks whether they differ
-pub not_differing : (w v : Place) {r : Bool} → r ≡ not (sameb the_type w v) → r ≡ false → w ≡ v
-not_differing w v d e = same_place w v (sym (not-false (sameb the_type w v) (sym d ∙ e)))
-
-pub differing : (w v : Place) {r : Bool} → r ≡ not (sameb the_type w v) → r ≡ true → w ≡ v → ⊥
-differing w v d e = other_place w v (sym (not-true (sameb the_type w v) (sym d ∙ e)))

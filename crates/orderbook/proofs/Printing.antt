@@ -1,11 +1,10 @@
 -- A print: the side that does not give stays as it is.
-use Rattle.std.proofs.Common.{◌≡◌, ℕ, zero, suc, ◌-◌, ◌≤◌, Bool, true, false, cond, eqb, List, [], ◌∷◌, length, get_or, sym, refl, ap, ◌∙◌, subst, arith}
+use Rattle.std.proofs.Common.{◌≡◌, ℕ, ◌-◌, ◌≤◌, Bool, true, false, eqb, List, [], ◌∷◌, length, get_or, sym, refl, ap, ◌∙◌, subst, arith}
 use Rattle.std.specs.List.{AllZip}
 use Rattle.std.proofs.lemmas.Bool.{and_left, and_parts}
 use Rattle.std.proofs.lemmas.List.Elements.{length_all_zip}
 use Rattle.market.specs.declared.words.Side.{Side}
 use Rattle.market.specs.declared.words.Side.TheVariants.{Buy, Sell}
-use Rattle.market.specs.declared.words.Place.TheVariants.{Nowhere}
 use Rattle.market.specs.declared.words.Order.{Order}
 use Rattle.market.specs.Sides.{opposite, same_side, better}
 use Rattle.market.specs.Orders.{is_book, rests_on, fill}
@@ -14,12 +13,12 @@ use Rattle.replay.specs.Days.{Rule}
 use Rattle.replay.specs.Rolls.{alter}
 use Rattle.replay.specs.Book.{is_better, is_at, row, ahead}
 use Rattle.replay.specs.Moves.{gift, after, dealt, deal, size}
-use Rattle.replay.specs.RollHolds.{Numbered}
 use Rattle.orderbook.specs.Sorted.{Key, Sound, Tied}
 use Rattle.orderbook.specs.Tables.{Kept}
 use Rattle.orderbook.specs.Trades.{traded}
 use Rattle.orderbook.proofs.Lookup.{alter_from}
-use Rattle.orderbook.proofs.Leaving.{Stays, stays_self, stays_trans, each_set, each_trans, tied_still}
+use Rattle.orderbook.proofs.Prints.{deal_past, where_out}
+use Rattle.orderbook.proofs.Leaving.{numbered_along, Stays, stays_self, stays_trans, each_set, each_trans, tied_still}
 use Rattle.orderbook.proofs.Moving.{stays_off, other_stays}
 
 deal_stays : (c : Side) (p : ℕ) (os : List Order) (gs : List ℕ) → AllZip (Stays (opposite c)) os (deal c p os gs)
@@ -32,26 +31,6 @@ deal_stays c p (o ∷ os) gs = (go (is_better c p o) refl (is_at c p o) refl, de
     go false h true j = other_stays c o (fill (gift gs) o) refl refl (and_parts (rests_on c o) (eqb o.price p) j).0
     go false h false j = stays_self (opposite c) o
 
--- an order that does not rest is not dealt with
-deal_past : (c : Side) (p : ℕ) (os : List Order) (gs : List ℕ) (i : ℕ) → rests_on c (get_or os i blank) ≡ false → get_or (deal c p os gs) i blank ≡ get_or os i blank
-unfolding deal
-deal_past c p [] gs i e = refl
-deal_past c p (o ∷ os) gs zero e = ap (λ b. dealt b (is_at c p o) gs o) (and_left (rests_on c o) (better c o.price p) e) ∙ ap (λ b. dealt false b gs o) (and_left (rests_on c o) (eqb o.price p) e)
-deal_past c p (o ∷ os) gs (suc i) e = deal_past c p os (after (is_at c p o) gs) i e
-
-numbered_stays : (c : Side) (k : ℕ) (os us : List Order) → AllZip (Stays c) os us → Numbered k os → Numbered k us
-numbered_stays c k [] [] z h = tt
-numbered_stays c k [] (u ∷ us) z h = absurd z
-numbered_stays c k (o ∷ os) [] z h = absurd z
-numbered_stays c k (o ∷ os) (u ∷ us) z h = (ap (λ (x : Key). x.number) z.0.key ∙ h.0, numbered_stays c (suc k) os us z.1 h.1)
-
-fill_off : (q : ℕ) (o : Order) → is_book o.place ≡ false → is_book (fill q o).place ≡ false
-fill_off q o e = go (eqb (o.«open» - q) 0)
-  where
-    go : (b : Bool) → is_book (cond b Nowhere o.place) ≡ false
-    go true = refl
-    go false = e
-
 traded_stays : (c : Side) (n p q : ℕ) (gs : List ℕ) {os : List Order} → Sound os → (1 ≤ n) × (n ≤ length os) → is_book (get_or os (n - 1) blank).place ≡ false
     → AllZip (Stays (opposite c)) os (alter n (fill q) (deal c p os gs))
 traded_stays c n p q gs {os} s w off =
@@ -60,9 +39,9 @@ traded_stays c n p q gs {os} s w off =
     let runner : get_or us (n - 1) blank ≡ get_or os (n - 1) blank = deal_past c p os gs (n - 1) (and_left (is_book (get_or os (n - 1) blank).place) (same_side (get_or os (n - 1) blank).side c) off) in
     let still : is_book (get_or us (n - 1) blank).place ≡ false = ap (λ (o : Order). is_book o.place) runner ∙ off in
     each_trans (Stays (opposite c)) (stays_trans (opposite c)) os us (alter n (fill q) us) z
-    (subst (AllZip (Stays (opposite c)) us) (sym (alter_from (fill q) n 1 us (numbered_stays (opposite c) 1 os us z s.numbered) w.0 (omega (arith, w.1, length_all_zip (Stays (opposite c)) os us z))))
+    (subst (AllZip (Stays (opposite c)) us) (sym (alter_from (fill q) n 1 us (numbered_along (Stays (opposite c)) (λ o u k. k.key) 1 os us z s.numbered) w.0 (omega (arith, w.1, length_all_zip (Stays (opposite c)) os us z))))
     (each_set (Stays (opposite c)) (stays_self (opposite c)) us (n - 1) (fill q (get_or us (n - 1) blank))
-    (stays_off (opposite c) (get_or us (n - 1) blank) (fill q (get_or us (n - 1) blank)) refl still (fill_off q (get_or us (n - 1) blank) still))))
+    (stays_off (opposite c) (get_or us (n - 1) blank) (fill q (get_or us (n - 1) blank)) refl still (where_out ((get_or us (n - 1) blank).«open» - q) (get_or us (n - 1) blank).place still))))
 
 module _ (gifts : Rule) (n p : ℕ) {os us : List Order} {b o : List Key} (k : Kept os b o) (w : (1 ≤ n) × (n ≤ length os)) (off : is_book (get_or os (n - 1) blank).place ≡ false) where
   other : (c : Side) (ks : List Key) → us ≡ traded gifts n c p os → Sound us → Tied (opposite c) os ks → Tied (opposite c) us ks

@@ -1,5 +1,5 @@
 -- Laws of precedence, and of the book of a side.
-use Rattle.std.proofs.Common.{◌≡◌, ℕ, suc, ◌+◌, ◌-◌, ◌<◌, ◌≤◌, Bool, true, false, cond, ◌&&◌, eqb, List, [], ◌∷◌, map, length, get_or, Some, None, filter, Option, sym, refl, ap, ◌∙◌, subst, arith}
+use Rattle.std.proofs.Common.{◌≡◌, ℕ, suc, ◌+◌, ◌-◌, ◌<◌, ◌≤◌, Bool, true, false, cond, ◌&&◌, eqb, List, [], ◌∷◌, map, length, get_or, Some, None, Option, sym, refl, ap, ◌∙◌, subst, arith}
 use Rattle.std.specs.List.{AllByRecursion}
 use Rattle.std.proofs.ByRecursion.{All-weaker}
 use Rattle.std.proofs.lemmas.Bool.Decides.{nat_tests}
@@ -14,6 +14,7 @@ use Rattle.replay.specs.Lists.{only, total, kept, those}
 use Rattle.replay.specs.Book.{is_better, is_at, is_up_to, ahead, depth, row, prices, pick, best}
 use Rattle.replay.specs.RollHolds.{Numbered}
 use Rattle.orderbook.specs.Sorted.{Key, precedes, key_of, before, rested, book, first_of, price_in}
+pub use Rattle.orderbook.proofs.Fronts.{none_those}
 pub use Rattle.orderbook.proofs.Filed.{total_filed, all_filed, filed_first, Sorted, kept_drop, kept_filed, filed_swap, map_filed, length_filed}
 
 -- precedence ---------------------------------------------------------------------------------------------------------------
@@ -61,15 +62,6 @@ all_book P c (o ∷ os) a = go (rests_on c o) (all_book P c os a.1)
     go : (b : Bool) → AllByRecursion P (book c os) → AllByRecursion P (rested c b o (book c os))
     go true ih = all_filed (before c) P o (book c os) a.0 ih
     go false ih = ih
-
-pub all_resting : (c : Side) (os : List Order) → AllByRecursion (λ o. rests_on c o ≡ true) (book c os)
-unfolding book
-all_resting c [] = tt
-all_resting c (o ∷ os) = go (rests_on c o) refl (all_resting c os)
-  where
-    go : (b : Bool) → rests_on c o ≡ b → AllByRecursion (λ u. rests_on c u ≡ true) (book c os) → AllByRecursion (λ u. rests_on c u ≡ true) (rested c b o (book c os))
-    go true e ih = all_filed (before c) (λ u. rests_on c u ≡ true) o (book c os) e ih
-    go false e ih = ih
 
 pub total_book : (f : Order → ℕ) (c : Side) (os : List Order) → total f (book c os) ≡ total (λ o. only (rests_on c o) (f o)) os
 unfolding book
@@ -187,16 +179,13 @@ ahead_book c p os =
     total_book (λ o. only (better c o.price p) o.«open») c os
     ∙ total_same (λ o. only (rests_on c o) (only (better c o.price p) o.«open»)) (λ o. only (is_better c p o) o.«open») (λ o. only_and (rests_on c o) (better c o.price p) o.«open») os
 
-total_those : (t : Order → Bool) (f : Order → ℕ) (xs : List Order) → total (λ o. only (t o) (f o)) xs ≡ total (λ n. n) (map f (those t xs))
+pub total_those : (t : Order → Bool) (f : Order → ℕ) (xs : List Order) → total (λ o. only (t o) (f o)) xs ≡ total (λ n. n) (map f (those t xs))
 total_those t f [] = refl
 total_those t f (x ∷ xs) = go (t x) (total_those t f xs)
   where
     go : (b : Bool) → total (λ o. only (t o) (f o)) xs ≡ total (λ n. n) (map f (those t xs)) → only b (f x) + total (λ o. only (t o) (f o)) xs ≡ total (λ n. n) (map f (kept b x (those t xs)))
     go true ih = omega arith
     go false ih = omega arith
-
-pub level_sum : (c : Side) (p : ℕ) (os : List Order) → Numbered 1 os → total (λ o. only (eqb o.price p) o.«open») (book c os) ≡ total (λ n. n) (row c p os)
-level_sum c p os h = total_those (λ o. eqb o.price p) (λ o. o.«open») (book c os) ∙ ap (total (λ n. n)) (row_book c p os h)
 
 -- the book is in order -------------------------------------------------------------------------------------------------------
 pub sorted_filed : (c : Side) (o : Order) (t : List Order) → AllByRecursion (λ u. suc o.number ≤ u.number) t → Sorted (before c) t → Sorted (before c) (filed (before c) o t)
@@ -227,18 +216,6 @@ pub total_none : {A : Type 0} (t : A → Bool) (f : A → ℕ) (xs : List A) →
 total_none t f [] a = refl
 total_none t f (x ∷ xs) a = omega (arith, ap (λ b. only b (f x)) a.0, total_none t f xs a.1)
 
-pub none_kept : {A : Type 0} (t : A → Bool) (xs : List A) → AllByRecursion (λ x. t x ≡ false) xs → filter t xs ≡ []
-none_kept t [] a = refl
-none_kept t (x ∷ xs) a = ap (λ b. cond b (x ∷ filter t xs) (filter t xs)) a.0 ∙ none_kept t xs a.1
-
-pub none_those : {A : Type 0} (t : A → Bool) (xs : List A) → AllByRecursion (λ x. t x ≡ false) xs → those t xs ≡ []
-none_those t [] a = refl
-none_those t (x ∷ xs) a = ap (λ b. kept b x (those t xs)) a.0 ∙ none_those t xs a.1
-
-pub first_none : (os : List Order) → length os ≡ 0 → None ≡ first_of os
-first_none [] h = refl
-first_none (o ∷ os) h = absurd (omega arith)
-
 pub first_some : (os : List Order) → 0 < length os → Some (get_or os 0 blank) ≡ first_of os
 first_some [] h = absurd (omega arith)
 first_some (o ∷ os) h = refl
@@ -247,6 +224,23 @@ pub first_price_lem : (os : List Order) → price_in (first_of os) ≡ head_pric
 first_price_lem [] = refl
 first_price_lem (o ∷ os) = refl
 
+-- two prices
+pub better_good : (c : Side) (x p : ℕ) → as_good c x p ≡ false → better c x p ≡ false
+better_good Buy x p h = grind (arith, nat_tests)
+better_good Sell x p h = grind (arith, nat_tests)
+
+pub better_level : (c : Side) (x p : ℕ) → better c x p ≡ true → eqb x p ≡ false
+better_level Buy x p h = grind (arith, nat_tests)
+better_level Sell x p h = grind (arith, nat_tests)
+
+pub not_better_level : (c : Side) (x p : ℕ) → better c x p ≡ false → as_good c x p ≡ eqb x p
+not_better_level Buy x p h = grind (arith, nat_tests)
+not_better_level Sell x p h = grind (arith, nat_tests)
+
 pub level_as_good : (c : Side) (x p : ℕ) → as_good c x p ≡ false → eqb x p ≡ false
 level_as_good Buy x p h = grind (arith, nat_tests)
 level_as_good Sell x p h = grind (arith, nat_tests)
+
+pub good_self : (c : Side) (p : ℕ) → as_good c p p ≡ true
+good_self Buy p = grind (arith, nat_tests)
+good_self Sell p = grind (arith, nat_tests)

@@ -2,6 +2,7 @@
 use Rattle.std.proofs.Common.{◌≡◌, ℕ, zero, suc, ◌+◌, ◌*◌, ◌<◌, ◌≤◌, Bool, true, false, not, leb, List, [], ◌∷◌, length, get_or, take, drop, Some, None, Option, sym, refl, ap, ◌∙◌, subst, ⊎_elim, arith}
 use Rattle.std.proofs.ByRecursion.{All-weaker, All-get_or}
 use Rattle.std.proofs.lemmas.List.{drop_more, drop_all}
+use Rattle.std.proofs.lemmas.List.Sums.{sum_by_more}
 use Rattle.std.proofs.lemmas.Bool.{false≢true, or_cases, and_left, and_right, le-leb, leb-true}
 use Rattle.std.proofs.lemmas.Bool.Decides.{nat_tests}
 use Rattle.market.specs.declared.words.Side.{Side}
@@ -19,8 +20,8 @@ use Rattle.replay.specs.Book.{depth}
 use Rattle.replay.specs.RollHolds.{Numbered}
 use Rattle.orderbook.specs.Sorted.{Key, precedes, key_of, before, book}
 use Rattle.orderbook.specs.Trades.{past_range, is_past}
-use Rattle.orderbook.proofs.Sorting.{Sorted, sorted_book, depth_book, behind, total_none}
-use Rattle.orderbook.proofs.Reading.{sorted_drop}
+use Rattle.orderbook.proofs.Sorting.{good_self, Sorted, sorted_book, depth_book, behind, total_none}
+use Rattle.orderbook.proofs.Fronts.{sorted_drop, total_sum_by}
 use Rattle.orderbook.proofs.Sweeps.{sweep, sweep_past, sweep_here, sweep_on, sweep_none}
 
 -- prices behind ----------------------------------------------------------------------------------------------------------
@@ -68,19 +69,8 @@ past_behind c r g p q e h k =
     (or_cases (not (in_limit r p)) (past_range c g p) k)
 
 -- sums -------------------------------------------------------------------------------------------------------------------
-total_front : {X : Type 0} (f : X → ℕ) (xs : List X) (i : ℕ) (d : X) → i < length xs → total f (take (suc i) xs) ≡ total f (take i xs) + f (get_or xs i d)
-total_front f [] i d h = absurd (omega arith)
-total_front f (x ∷ xs) zero d h = zero_right (f x)
-  where
-    zero_right : (n : ℕ) → n + 0 ≡ 0 + n
-    zero_right n = omega arith
-total_front f (x ∷ xs) (suc i) d h = more (f x) (total f (take (suc i) xs)) (total f (take i xs)) (f (get_or xs i d)) (total_front f xs i d (omega arith))
-  where
-    more : (a b c d : ℕ) → b ≡ c + d → a + b ≡ (a + c) + d
-    more a b c d e = omega arith
-
 total_take : {X : Type 0} (f : X → ℕ) (xs : List X) (i : ℕ) (d : X) → i < length xs → total f (take (i + 1) xs) ≡ total f (take i xs) + f (get_or xs i d)
-total_take f xs i d h = ap (λ n. total f (take n xs)) (let e : i + 1 ≡ suc i = omega arith in e) ∙ total_front f xs i d h
+total_take f xs i d h = sym (total_sum_by f (take (i + 1) xs)) ∙ sum_by_more f xs i d h ∙ ap (λ n. n + f (get_or xs i d)) (total_sum_by f (take i xs))
 
 -- up to the price of the order at i all shares count, those ahead of it whole
 front_covered : (c : Side) (xs : List Order) (i : ℕ) → Sorted (before c) xs → i < length xs
@@ -94,10 +84,6 @@ front_covered c (x ∷ xs) (suc i) s h =
     let good : as_good c x.price (get_or xs i blank).price ≡ true = ahead_good c (key_of x) (key_of (get_or xs i blank)) (All-get_or (λ y. before c x y ≡ true) xs i blank (omega arith) s.0) in
     omega (arith, front_covered c xs i s.1 (omega arith), ap (λ b. only b x.«open») good)
 
-good_self : (c : Side) (p : ℕ) → as_good c p p ≡ true
-good_self Buy p = le-leb p p (omega arith)
-good_self Sell p = le-leb p p (omega arith)
-
 -- the loop ---------------------------------------------------------------------------------------------------------------
 abbrev pub covered : Side → ℕ → List Order → Order → Bool
 covered c q os o = leb q (depth c o.price os)
@@ -108,7 +94,7 @@ pub record Sweeping (c : Side) (os : List Order) (q : ℕ) (reach : ℕ → Bool
   pub small : sum ≤ 1000000 * i
 
 module _ {c : Side} {os : List Order} {q : ℕ} {reach : ℕ → Bool} {last : Option ℕ} {sum i : ℕ} {whole : Option ℕ}
-    (count : Numbered 1 os) (x : Order) (lt : i < length (book c os)) (is : x ≡ get_or (book c os) i blank) (inv : Sweeping c os q reach last sum i whole) where
+    (count : Numbered 1 os) (x : Order) (lt : i < length (book c os)) (is : x ≡ get_or (book c os) i blank) {price : ℕ} (priced : price ≡ x.price) (inv : Sweeping c os q reach last sum i whole) where
   at : drop i (book c os) ≡ x ∷ drop (i + 1) (book c os)
   at = drop_more (book c os) i blank lt ∙ ap (λ u. u ∷ drop (i + 1) (book c os)) (sym is)
 
@@ -137,8 +123,11 @@ module _ {c : Side} {os : List Order} {q : ℕ} {reach : ℕ → Bool} {last : O
   here : reach x.price ≡ true → covered c q os x ≡ true → Some x.price ≡ whole
   here e f = sym (sweep_here c (λ o. reach o.price) (covered c q os) last x (drop (i + 1) (book c os)) in_order e f) ∙ from
 
-  pub sweep_stop : reach x.price ≡ true → q ≤ sum + x.«open» → Some x.price ≡ whole
-  sweep_stop e h = here e (le-leb q (depth c x.price os) (omega (arith, deep)))
+  reach_at : {b : Bool} → reach price ≡ b → reach x.price ≡ b
+  reach_at e = ap reach (sym priced) ∙ e
+
+  pub sweep_stop : reach price ≡ true → q ≤ sum + x.«open» → Some price ≡ whole
+  sweep_stop e h = ap (λ (n : ℕ). Some n) priced ∙ here (reach_at e) (le-leb q (depth c x.price os) (omega (arith, deep)))
 
   -- where the price covers q but the sum does not yet, the next order has the same price
   level_next : (ys : List Order) → Sorted (before c) (x ∷ ys) → reach x.price ≡ true → covered c q os x ≡ true → 0 < total (λ o. only (as_good c o.price x.price) o.«open») ys
@@ -155,21 +144,24 @@ module _ {c : Side} {os : List Order} {q : ℕ} {reach : ℕ → Bool} {last : O
           sweep_here c (λ o. reach o.price) (covered c q os) (Some x.price) y ys s.1 (ap reach p ∙ e) (ap (λ n. leb q (depth c n os)) p ∙ f) ∙ ap (λ (n : ℕ). Some n) p
       go false k = absurd (omega (arith, none k))
 
-  pub sweep_more : reach x.price ≡ true → sum + x.«open» < q → x.«open» ≤ 1000000 → Sweeping c os q reach (Some x.price) (sum + x.«open») (i + 1) whole
-  sweep_more e h m = record { same = go (covered c q os x) refl; sums = more; small = omega (arith, inv.small) }
+  pub sweep_more : reach price ≡ true → sum + x.«open» < q → x.«open» ≤ 1000000 → Sweeping c os q reach (Some price) (sum + x.«open») (i + 1) whole
+  sweep_more k h m = record { same = ap (λ (n : ℕ). sweep c (λ o. reach o.price) (covered c q os) (Some n) (drop (i + 1) (book c os))) priced ∙ go (covered c q os x) refl; sums = more; small = omega (arith, inv.small) }
     where
+      e : reach x.price ≡ true
+      e = reach_at k
+
       go : (b : Bool) → covered c q os x ≡ b → sweep c (λ o. reach o.price) (covered c q os) (Some x.price) (drop (i + 1) (book c os)) ≡ whole
       go true f = level_next (drop (i + 1) (book c os)) in_order e f (omega (arith, deep, leb-true q (depth c x.price os) f)) ∙ here e f
       go false f = sym (sweep_on c (λ o. reach o.price) (covered c q os) last x (drop (i + 1) (book c os)) in_order e f) ∙ from
 
-  pub sweep_skip : reach x.price ≡ false → x.«open» ≤ 1000000 → Sweeping c os q reach last (sum + x.«open») (i + 1) whole
-  sweep_skip e m = record { same = sym (sweep_past c (λ o. reach o.price) (covered c q os) last x (drop (i + 1) (book c os)) in_order e) ∙ from; sums = more; small = omega (arith, inv.small) }
+  pub sweep_skip : reach price ≡ false → x.«open» ≤ 1000000 → Sweeping c os q reach last (sum + x.«open») (i + 1) whole
+  sweep_skip e m = record { same = sym (sweep_past c (λ o. reach o.price) (covered c q os) last x (drop (i + 1) (book c os)) in_order (reach_at e)) ∙ from; sums = more; small = omega (arith, inv.small) }
 
   -- where no worse price is in reach
-  pub sweep_out : reach x.price ≡ false → ((p : ℕ) → better c p x.price ≡ false → reach p ≡ false) → last ≡ whole
+  pub sweep_out : reach price ≡ false → ((p : ℕ) → better c p price ≡ false → reach p ≡ false) → last ≡ whole
   sweep_out e out =
       sym (sweep_none c (λ o. reach o.price) (covered c q os) last (x ∷ drop (i + 1) (book c os))
-      (e, All-weaker (λ y. before c x y ≡ true) (λ y. reach y.price ≡ false) (λ y h. out y.price (behind_not_better c (key_of x) (key_of y) h)) (drop (i + 1) (book c os)) in_order.0))
+      (reach_at e, All-weaker (λ y. before c x y ≡ true) (λ y. reach y.price ≡ false) (λ y h. out y.price (ap (better c y.price) priced ∙ behind_not_better c (key_of x) (key_of y) h)) (drop (i + 1) (book c os)) in_order.0))
       ∙ from
 
 pub sweep_end : {c : Side} {os : List Order} {q : ℕ} {reach : ℕ → Bool} {last : Option ℕ} {sum i : ℕ} {whole : Option ℕ} → length (book c os) ≤ i → Sweeping c os q reach last sum i whole → last ≡ whole

@@ -3,6 +3,7 @@ use Rattle.std.proofs.Common.{◌≡◌, ℕ, Bool, true, false, cond, ◌&&◌,
 use Rattle.std.specs.List.{AllByRecursion}
 use Rattle.std.proofs.ByRecursion.{All-weaker}
 use Rattle.std.proofs.lemmas.Bool.{and_left}
+use Rattle.std.proofs.Math.Bool.{and_assoc}
 use Rattle.std.proofs.lemmas.Bool.Decides.{nat_tests}
 use Rattle.market.specs.declared.words.Side.{Side}
 use Rattle.market.specs.declared.words.Side.TheVariants.{Buy, Sell}
@@ -142,10 +143,6 @@ kept_prices u t (x ∷ xs) = go (u x) (kept_prices u t xs)
         inner true ih = ap (λ l. x.price ∷ l) ih
         inner false ih = ih
     go false ih = ih
-
-and_assoc : (a b c : Bool) → ((a && b) && c) ≡ (a && (b && c))
-and_assoc true b c = refl
-and_assoc false b c = refl
 
 same_tagged : (u v : Order → Bool) → ((o : Order) → u o ≡ v o) → (xs : List Order) → tagged u xs ≡ tagged v xs
 same_tagged u v e [] = refl

@@ -3,17 +3,13 @@ use Rattle.std.proofs.Common.{◌≡◌, ℕ, suc, ◌+◌, List, [], ◌∷◌,
 use mathlib.Core.Logic.{∥∥₁_elim}
 use native.Mathlib.Bridge.{le_prop}
 use base.Stored.{Coded-set, coded_ℕ, coded×, coded_list, coded_via}
-use Rattle.std.specs.List.{AllByRecursion}
+use Rattle.std.specs.List.{AllByRecursion-prop}
 use Rattle.market.specs.declared.words.Side.{Side}
 use Rattle.market.specs.declared.words.Side.TheVariants.{Buy, Sell}
 use Rattle.market.specs.declared.words.Order.{Order}
 use Rattle.replay.specs.RollHolds.{Numbered}
 use Rattle.orderbook.specs.Sorted.{Key, key_of, book, Sums, Sound, Tied}
 use Rattle.orderbook.specs.Tables.{Kept}
-
-all_prop : {X : Type 0} (P : X → Type 0) → ((x : X) → IsProp (P x)) → (xs : List X) → IsProp (AllByRecursion P xs)
-all_prop P h [] p q = refl
-all_prop P h (x ∷ xs) p q = λ i. (h x p.0 q.0 i, all_prop P h xs p.1 q.1 i)
 
 numbered_prop : (k : ℕ) (os : List Order) → IsProp (Numbered k os)
 numbered_prop k [] p q = refl
@@ -29,7 +25,7 @@ sums_prop : (o : Order) → IsProp (Sums o)
 sums_prop o p q = λ i. record { whole = Coded-set coded_ℕ (o.filled + o.cancelled + o.«open») o.accepted p.whole q.whole i; most = le_prop p.most q.most i }
 
 sound_prop : (os : List Order) → IsProp (Sound os)
-sound_prop os p q = λ i. record { numbered = numbered_prop 1 os p.numbered q.numbered i; few = le_prop p.few q.few i; sums = all_prop Sums sums_prop os p.sums q.sums i }
+sound_prop os p q = λ i. record { numbered = numbered_prop 1 os p.numbered q.numbered i; few = le_prop p.few q.few i; sums = AllByRecursion-prop Sums sums_prop os p.sums q.sums i }
 
 tied_prop : (c : Side) (os : List Order) (ks : List Key) → IsProp (Tied c os ks)
 tied_prop c os ks p q = λ i. record { sound = sound_prop os p.sound q.sound i; shows = keys_set ks (map key_of (book c os)) p.shows q.shows i }
@@ -42,3 +38,6 @@ kept {os} {b} {o} x = ∥∥₁_elim x (kept_prop os b o) (λ r. r)
 
 pub sound : {os : List Order} {b o : List Key} → ∥ Kept os b o ∥₁ → Sound os
 sound x = (kept x).bid.sound
+
+pub tied : {c : Side} {os : List Order} {ks : List Key} → ∥ Tied c os ks ∥₁ → Tied c os ks
+tied {c} {os} {ks} x = ∥∥₁_elim x (tied_prop c os ks) (λ r. r)

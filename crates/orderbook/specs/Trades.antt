@@ -1,5 +1,5 @@
 -- What the calls of a book do to the roll, and what its questions answer. Assumes nothing.
-use Rattle.std.specs.Prelude.{ℕ, ◌-◌, Bool, false, cond, not, ◌&&◌, ◌||◌, leb, List, length, Some, None, Option, nat_le, nat_lt}
+use Rattle.std.specs.Prelude.{ℕ, ◌-◌, Bool, false, cond, not, ◌&&◌, ◌||◌, leb, List, ◌++◌, map, length, Some, None, Option, nat_le, nat_lt}
 use Rattle.market.specs.declared.words.Side.{Side}
 use Rattle.market.specs.declared.words.Side.TheVariants.{Buy}
 use Rattle.market.specs.declared.words.Place.{Place}
@@ -14,11 +14,17 @@ use Rattle.replay.specs.Rolls.{look, alter, left, fresh}
 use Rattle.replay.specs.Book.{ahead, depth, row, prices, best, is_reached}
 use Rattle.replay.specs.Moves.{deal, size}
 use Rattle.replay.specs.Runs.{allowed, or}
+use Rattle.orderbook.specs.Sorted.{book}
 use Rattle.orderbook.specs.declared.ticket.Ticket.{Ticket}
 
 -- the roll after order n traded with side c at p
 abbrev pub traded : Rule → ℕ → Side → ℕ → List Order → List Order
 traded gifts n c p os = alter n (fill (size n c p os)) (deal c p os (gifts (row c p os) (size n c p os - ahead c p os)))
+
+-- what the orders of side c give to a print of q shares at p, in order of precedence: those priced better all that is open, and those
+-- at p their gifts
+abbrev pub given : Rule → ℕ → Side → ℕ → List Order → List ℕ
+given gifts q c p os = map (λ o. o.«open») (those (λ o. better c o.price p) (book c os)) ++ gifts (row c p os) (q - ahead c p os)
 
 -- there is such an order, and it is not on the book
 abbrev pub is_off : Option Order → Bool

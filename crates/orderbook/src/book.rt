@@ -1,26 +1,21 @@
 // The roll with the book of each side: a table of the orders that rest there, in order of precedence.
-ghost use Rattle.std.specs.Prelude.{◌≡◌, ◌≤◌, length, take};
 ghost use Rattle.market.specs.Rolls.{listed};
 ghost use Rattle.orderbook.specs.Tables.{Kept, keys};
 
+use crate::tables::Table;
 use market::roll::Roll;
-use market::side::{Bids, Offers, Resting};
+use market::side::{Bids, Offers};
 
 mod changes;
-mod places;
 mod questions;
-mod sides;
+mod tickets;
 pub mod totals;
 
-// The first rows of each table, so many as its count says, are in use: they show the book of that side.
+// Each table shows the book of its side.
 #[derive(Drop)]
 pub struct Book {
     roll: Roll,
-    bids: [Resting<Bids>; 512],
-    bidding: usize,
-    offers: [Resting<Offers>; 512],
-    offering: usize,
-    ghost long: { (length bids ≡ 512) × (length offers ≡ 512) },
-    ghost within: { (bidding ≤ 512) × (offering ≤ 512) },
-    ghost kept: { ∥ Kept (listed roll) (keys (take bidding bids)) (keys (take offering offers)) ∥₁ },
+    bids: Table<Bids>,
+    offers: Table<Offers>,
+    ghost kept: { ∥ Kept (listed roll) (keys bids.items) (keys offers.items) ∥₁ },
 }

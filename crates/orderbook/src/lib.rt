@@ -3,6 +3,7 @@
 
 pub mod book;
 mod deal;
+mod numbers;
 mod rows;
 mod tables;
 pub mod ticket;

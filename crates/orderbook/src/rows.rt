@@ -1,118 +1,118 @@
 // Questions to one side of the book: its table over the roll, read from the front and no further than need be.
-ghost use Rattle.std.specs.Prelude.{◌≡◌, ◌-◌, ◌<◌, ◌≤◌, length, take, slice_index_or};
+ghost use Rattle.std.specs.Prelude.{◌≡◌, ◌-◌, length, map, slice_index_or};
+ghost use Rattle.std.specs.List.{take_while};
 ghost use Rattle.market.specs.Changes.{blank};
 ghost use Rattle.market.specs.Rolls.{listed};
-ghost use Rattle.market.specs.Sides.{opposite};
-ghost use Rattle.replay.specs.Lists.{total};
-ghost use Rattle.replay.specs.Book.{ahead, row};
+ghost use Rattle.market.specs.Sides.{opposite, as_good, better};
+ghost use Rattle.replay.specs.Lists.{those, total};
+ghost use Rattle.replay.specs.Book.{row};
 ghost use Rattle.orderbook.specs.Sorted.{book, first_of, Tied};
 ghost use Rattle.orderbook.specs.Tables.{keys};
 ghost use Rattle.orderbook.specs.Trades.{past_range, is_past, clean_up_to};
 
+use crate::numbers::order_numbered;
+use arrayvec::ArrayVec;
+use market::bounds::ROLL;
 use market::roll::Roll;
 use market::side::{BookSide, Resting};
-use market::words::{Kind, Order, Range, Side};
+use market::words::{Order, Range};
 
-// The order of a number, or a blank one where the roll does not go so far.
-pub(crate) fn order_numbered(roll: &Roll, number: u32) -> Order
-    ensures { result ≡ slice_index_or (listed roll.now) (number - 1) blank }
-{
-    match roll.get((number as usize).saturating_sub(1)) {
-        Some(order) => order,
-        None => Order::new(0, 0, Side::Buy, Kind::Limit, 0, 0),
-    }
+// The rows show the book of side S of the roll.
+#[derive(Drop)]
+pub(crate) struct Rows<'a, S: BookSide> {
+    pub(crate) roll: &'a Roll,
+    pub(crate) rows: &'a [Resting<S>],
+    ghost tied: { ∥ Tied S.BookSide.side (listed roll.now) (keys rows.now) ∥₁ },
 }
 
-// The order of the row at a place.
-pub(crate) fn order_at<S: BookSide>(roll: &Roll, table: &[Resting<S>], at: usize) -> Order
-    requires tied { Tied S.BookSide.side (listed roll.now) (keys table.now) }
-    requires there { at < length table.now }
-    ensures { result ≡ slice_index_or (book S.BookSide.side (listed roll.now)) at blank }
-{
-    order_numbered(roll, table[at].number)
-}
-
-// The best order, if any rests.
-pub(crate) fn best<S: BookSide>(roll: &Roll, table: &[Resting<S>]) -> Option<Order>
-    requires { Tied S.BookSide.side (listed roll.now) (keys table.now) }
-    ensures { result ≡ first_of (book S.BookSide.side (listed roll.now)) }
-{
-    if table.is_empty() {
-        return None;
+impl<'a, S: BookSide> Rows<'a, S> {
+    fn order(&self, row: &Resting<S>) -> Order
+        ensures { result ≡ slice_index_or (listed self.now.roll.now) (row.now.number - 1) blank }
+    {
+        order_numbered(self.roll, row.number)
     }
-    Some(order_at(roll, table, 0))
-}
 
-// The shares at prices better than a price.
-pub(crate) fn ahead<S: BookSide>(roll: &Roll, table: &[Resting<S>], price: u32) -> u32
-    requires { Tied S.BookSide.side (listed roll.now) (keys table.now) }
-    ensures shares { result ≡ ahead S.BookSide.side price (listed roll.now) }
-    ensures small { result ≤ 512000000 }
-{
-    let mut sum = 0;
-    for i in 0..table.len() {
-        let order = order_at(roll, table, i);
-        if !S::better(order.price, price) {
-            return sum;
-        }
-        sum += order.open;
+    // The best order, if any rests.
+    pub(crate) fn best(&self) -> Option<Order>
+        ensures { result ≡ first_of (book S.BookSide.side (listed self.now.roll.now)) }
+    {
+        let row = self.rows.first()?;
+        Some(self.order(row))
     }
-    sum
-}
 
-// The shares at a price.
-pub(crate) fn level<S: BookSide>(roll: &Roll, table: &[Resting<S>], price: u32) -> u32
-    requires { Tied S.BookSide.side (listed roll.now) (keys table.now) }
-    ensures shares { result ≡ total (λ n. n) (row S.BookSide.side price (listed roll.now)) }
-    ensures small { result ≤ 512000000 }
-{
-    let mut sum = 0;
-    for i in 0..table.len() {
-        let order = order_at(roll, table, i);
-        if !S::as_good(order.price, price) {
-            return sum;
-        }
-        if order.price == price {
-            sum += order.open;
-        }
+    // How many orders are priced better than a price.
+    pub(crate) fn better(&self, price: u32) -> usize
+        ensures { result ≡ length (those (λ o. better S.BookSide.side o.price price) (book S.BookSide.side (listed self.now.roll.now))) }
+    {
+        self.rows
+            .iter()
+            .take_while(|row| S::better(row.price, price))
+            .count()
     }
-    sum
-}
 
-// Writes the open shares at a price, lowest order number first, and says of how many orders.
-pub(crate) fn row<S: BookSide>(
-    roll: &Roll,
-    table: &[Resting<S>],
-    price: u32,
-    out: &mut [u32],
-) -> usize
-    requires tied { Tied S.BookSide.side (listed roll.now) (keys table.now) }
-    requires room { length table.now ≤ length out.old }
-    ensures within { result ≤ length out.old }
-    ensures row { take result out.new ≡ row S.BookSide.side price (listed roll.now) }
-{
-    let mut count = 0;
-    for i in 0..table.len() {
-        let order = order_at(roll, table, i);
-        if !S::as_good(order.price, price) {
-            return count;
-        }
-        if order.price == price {
-            out[count] = order.open;
-            count += 1;
-        }
+    // The rows at a price or better.
+    fn front(&self, price: u32) -> &'a [Resting<S>]
+        ensures { result.now ≡ take_while (λ row. as_good S.BookSide.side row.price price) self.now.rows.now }
+    {
+        let end = self
+            .rows
+            .iter()
+            .take_while(|row| S::as_good(row.price, price))
+            .count();
+        &self.rows[..end]
     }
-    count
+
+    // The open shares of the orders at a price or better, in order of precedence. One by one: `extend` over a chain was tried, and what its
+    // closure answers was not found in the proof.
+    pub(crate) fn open_shares(&self, price: u32) -> ArrayVec<u32, ROLL>
+        ensures { result.items ≡ map (λ o. o.«open») (those (λ o. as_good S.BookSide.side o.price price) (book S.BookSide.side (listed self.now.roll.now))) }
+    {
+        let mut shares = ArrayVec::new();
+        for row in self.front(price) {
+            shares.push(self.order(row).open);
+        }
+        shares
+    }
+
+    // The shares at a price.
+    pub(crate) fn level(&self, price: u32) -> u32
+        ensures { result ≡ total (λ n. n) (row S.BookSide.side price (listed self.now.roll.now)) }
+    {
+        self.front(price)
+            .iter()
+            .filter(|row| row.price == price)
+            .map(|row| self.order(row).open)
+            .sum()
+    }
+
+    // The price at which a quantity is cleaned up, in one pass: the shares up to each order are summed, and the first price in
+    // reach at which they cover the quantity is the one; if none does, the last in reach.
+    pub(crate) fn clean_up(&self, order: &Order, range: Option<Range>, quantity: u32) -> Option<u32>
+        requires { S.BookSide.side ≡ opposite order.now.side }
+        ensures { result ≡ clean_up_to quantity order.now range (listed self.now.roll.now) }
+    {
+        let mut sum = 0;
+        let mut last = None;
+        for row in self.rows {
+            sum += self.order(row).open;
+            if order.reaches(range, row.price) {
+                last = Some(row.price);
+                if quantity <= sum {
+                    return last;
+                }
+            } else if is_past::<S>(order, range, row.price) {
+                return last;
+            }
+        }
+        last
+    }
 }
 
 // Whether a price is beyond the far end of the range.
 fn past_range<S: BookSide>(range: Option<Range>, price: u32) -> bool
     ensures { result ≡ past_range S.BookSide.side range price }
 {
-    match range {
-        None => false,
-        Some(range) => S::better(range.low, price) && S::better(range.high, price),
-    }
+    range.is_some_and(|range| S::better(range.low, price) && S::better(range.high, price))
 }
 
 // Whether neither a price nor any worse one is within limit and range.
@@ -120,34 +120,4 @@ fn is_past<S: BookSide>(order: &Order, range: Option<Range>, price: u32) -> bool
     ensures { result ≡ is_past S.BookSide.side order.now range price }
 {
     !order.in_limit(price) || past_range::<S>(range, price)
-}
-
-// The price at which a quantity is cleaned up, in one pass: the shares up to each order are summed, and the first price in reach
-// at which they cover the quantity is the one; if none does, the last in reach.
-pub(crate) fn clean_up<S: BookSide>(
-    roll: &Roll,
-    table: &[Resting<S>],
-    order: &Order,
-    range: Option<Range>,
-    quantity: u32,
-) -> Option<u32>
-    requires tied { Tied S.BookSide.side (listed roll.now) (keys table.now) }
-    requires contra { S.BookSide.side ≡ opposite order.now.side }
-    ensures { result ≡ clean_up_to quantity order.now range (listed roll.now) }
-{
-    let mut sum = 0;
-    let mut last = None;
-    for i in 0..table.len() {
-        let best = order_at(roll, table, i);
-        sum += best.open;
-        if order.reaches(range, best.price) {
-            last = Some(best.price);
-            if quantity <= sum {
-                return last;
-            }
-        } else if is_past::<S>(order, range, best.price) {
-            return last;
-        }
-    }
-    last
 }

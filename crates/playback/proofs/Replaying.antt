@@ -1,5 +1,5 @@
 -- The replay of a list, midway: what was reported so far, and what is still to come.
-use Rattle.std.proofs.Common.{◌≡◌, ℕ, ◌≤◌, List, [], ◌∷◌, ◌++◌, length, take, drop, Option, Some, None, sym, refl, ap, ◌∙◌, subst, append_assoc, arith}
+use Rattle.std.proofs.Common.{◌≡◌, ℕ, ◌≤◌, List, [], ◌∷◌, ◌++◌, length, take, drop, Option, Some, None, Result, Ok, Err, sym, refl, ap, ◌∙◌, subst, append_assoc, arith}
 use Rattle.std.proofs.lemmas.List.{append-nil, length-append}
 use Rattle.std.proofs.Math.Seq.{take-append_seam}
 use Rattle.market.specs.declared.words.Stop.{Stop}
@@ -9,17 +9,18 @@ use Rattle.replay.specs.Calls.{refusal, checks, became, answered, perform, decid
 use Rattle.replay.specs.Moves.{set_up, admit, centre, to}
 use Rattle.replay.specs.Questions.{quote}
 use Rattle.replay.specs.History.{bare, Bare}
-use Rattle.replay.specs.StopFile.{file_of}
 use Rattle.replay.proofs.History.{step_bare}
-use Rattle.trading.specs.Boards.{orders_of, day_of}
-use Rattle.trading.specs.Deeds.{Filed, Did}
+use Rattle.trading.specs.Boards.{day_of}
+use Rattle.trading.specs.Deeds.{Did}
 use Rattle.playback.specs.declared.reply.Reply.{Reply}
 use Rattle.playback.specs.declared.reply.Reply.TheVariants as replies
+use Rattle.playback.specs.declared.reply.CallRefusal.{CallRefusal}
 use Rattle.playback.specs.declared.reply.View.{View}
 use Rattle.playback.specs.declared.stage.Stage.{Stage}
 use Rattle.playback.specs.declared.stage.Stage.TheVariants.{Load, Trade, Shut}
 use Rattle.playback.specs.declared.call.Call as calls
-use Rattle.playback.specs.Stages.{call_of, answer_of, lines_of, day_in, board_in}
+use Rattle.playback.specs.Stages.{call_of, day_in, board_in}
+use Rattle.playback.specs.Replies.{answer_of, lines_of}
 use Rattle.playback.specs.Views.{view_of, views}
 use Rattle.playback.specs.Lent.{over, lent}
 
@@ -31,12 +32,12 @@ told (Lines k) = k
 told (Entered n k) = k
 told (Refused k) = 0
 
-told_lines : (r : Reply) → lines_of r ≡ told (answer_of r)
-told_lines replies.Done = refl
-told_lines (replies.Number n) = refl
-told_lines (replies.Lines k) = refl
-told_lines (replies.Entered r) = refl
-told_lines (replies.Refused k) = refl
+told_lines : (r : Result Reply CallRefusal) → lines_of r ≡ told (answer_of r)
+told_lines (Ok replies.Done) = refl
+told_lines (Ok (replies.Number n)) = refl
+told_lines (Ok (replies.Lines k)) = refl
+told_lines (Ok (replies.Entered r)) = refl
+told_lines (Err e) = refl
 
 told_done : (gifts : Rule) (d : Day) (c : Call) → told (answered (bare d) c (became gifts (bare d) c)) ≡ length (became gifts (bare d) c).tape
 unfolding answered became set_up admit centre to
@@ -98,7 +99,7 @@ pub did_bare : {gifts : Rule} {room : ℕ} {all rest : List Call} {b : Day} {rs 
 did_bare {gifts = gifts} {room = room} {c = c} {a = a} {e = e} {ss = ss} {ks = ks} {ks' = ks'} m x = subst (λ y. Did gifts room y c a e ss ks ks') m.shown x
 
 -- the lines that it wrote are among those that it was lent
-pub told_fit : {gifts : Rule} {room : ℕ} {all rest : List Call} {b : Day} {rs : List Answer} {vs : List View} {ls old now : List TapeLine} {c : Call} {e : Day} {ss : List Stop} {ks ks' : List TapeLine} (r : Reply)
+pub told_fit : {gifts : Rule} {room : ℕ} {all rest : List Call} {b : Day} {rs : List Answer} {vs : List View} {ls old now : List TapeLine} {c : Call} {e : Day} {ss : List Stop} {ks ks' : List TapeLine} (r : Result Reply CallRefusal)
     (m : Midway gifts room all rest b rs vs ls old now) → Did gifts room b c (answer_of r) e ss ks ks' → lines_of r ≤ length ks'
 told_fit {gifts = gifts} {room = room} {c = c} {ks = ks} r m x =
     let y = did_bare m x in
@@ -106,7 +107,7 @@ told_fit {gifts = gifts} {room = room} {c = c} {ks = ks} r m x =
     omega (arith, told_lines r, ap told y.answer, told_tape gifts room m.day c, ap length y.lines, length-append t (drop (length t) ks))
 
 -- and they are all that it handed over
-told_taken : {gifts : Rule} {room : ℕ} {all rest : List Call} {b : Day} {rs : List Answer} {vs : List View} {ls old now : List TapeLine} {c : Call} {e : Day} {ss : List Stop} {ks ks' : List TapeLine} (r : Reply)
+told_taken : {gifts : Rule} {room : ℕ} {all rest : List Call} {b : Day} {rs : List Answer} {vs : List View} {ls old now : List TapeLine} {c : Call} {e : Day} {ss : List Stop} {ks ks' : List TapeLine} (r : Result Reply CallRefusal)
     (m : Midway gifts room all rest b rs vs ls old now) → Did gifts room b c (answer_of r) e ss ks ks' → take (lines_of r) ks' ≡ (step gifts room (bare m.day) c).day.tape
 told_taken {gifts = gifts} {room = room} {c = c} {ks = ks} {ks' = ks'} r m x =
     let y = did_bare m x in
@@ -114,7 +115,7 @@ told_taken {gifts = gifts} {room = room} {c = c} {ks = ks} {ks' = ks'} r m x =
     ap (λ n. take n ks') (told_lines r ∙ ap told y.answer ∙ told_tape gifts room m.day c) ∙ ap (take (length t)) y.lines ∙ take-append_seam t (drop (length t) ks)
 
 -- one call more
-pub went_on : {gifts : Rule} {room : ℕ} {all rest : List Call} {b : Day} {rs : List Answer} {vs : List View} {ls old : List TapeLine} {c : Call} {e : Day} {ss : List Stop} {ks ks' : List TapeLine} (r : Reply) (v : View)
+pub went_on : {gifts : Rule} {room : ℕ} {all rest : List Call} {b : Day} {rs : List Answer} {vs : List View} {ls old : List TapeLine} {c : Call} {e : Day} {ss : List Stop} {ks ks' : List TapeLine} (r : Result Reply CallRefusal) (v : View)
     → Midway gifts room all (c ∷ rest) b rs vs ls old ks → Did gifts room b c (answer_of r) e ss ks ks' → v ≡ view_of e → Midway gifts room all rest e (rs ++ answer_of r ∷ []) (vs ++ v ∷ []) (ls ++ take (lines_of r) ks') old ks'
 unfolding answers views after_calls lent
 went_on {gifts = gifts} {room = room} {rest = rest} {rs = rs} {vs = vs} {ls = ls} {c = c} {e = e} {ks = ks} r v m x seen =
@@ -131,15 +132,6 @@ went_on {gifts = gifts} {room = room} {rest = rest} {rs = rs} {vs = vs} {ls = ls
       after = m.after;
       lines = ap (lent gifts room d rest) (y.lines ∙ sym (ap (λ t. over t ks) s.lines)) ∙ m.lines;
     }
-
--- the stop file of the day after a call
-filed_in : {R F : Type 0} (st : Stage R F) → file_of (day_in st).roll ≡ file_of (orders_of (board_in st))
-filed_in (Load d) = refl
-filed_in (Trade d) = refl
-filed_in (Shut d) = refl
-
-pub filed_after : {gifts : Rule} {room : ℕ} {b : Day} {c : Call} {a : Answer} {R F : Type 0} (st : Stage R F) {ss : List Stop} {ks ks' : List TapeLine} → Did gifts room b c a (day_in st) ss ks ks' → Filed ss (board_in st)
-filed_after st x = x.file ∙ filed_in st
 
 -- the same by an equal rule, capacity and count of free lines
 pub did_by : {gifts gifts' : Rule} {room room' f f' : ℕ} {d : Day} {a : Answer} {e : Day} {ss : List Stop} {ks ks' : List TapeLine} (x : calls.Call) → gifts ≡ gifts' → room ≡ room' → f ≡ f'
@@ -161,7 +153,7 @@ midway_by {gifts} {room} {all} {now = now} p q r s m = record {
 }
 
 -- what is seen of a board is seen of the day
-pub view_in : {R F : Type 0} (st : Stage R F) → view_of (day_of Loading (board_in st)) ≡ view_of (day_in st)
+pub view_in : {R F : Type 0} {g : _} (st : Stage R F g) → view_of (day_of Loading (board_in st)) ≡ view_of (day_in st)
 unfolding quote
 view_in (Load d) = refl
 view_in (Trade d) = refl

@@ -1,4 +1,5 @@
+pub mod Laws
+pub mod Lent
+pub mod Replies
 pub mod Stages
 pub mod Views
-pub mod Lent
-pub mod Laws

@@ -1,22 +1,20 @@
--- Calls and replies of a list, and the day that a stage stands for. Assumes nothing.
+-- The calls of a list, and the day that a stage stands for. Assumes nothing.
 use Rattle.std.specs.Prelude.{ℕ}
 use Rattle.trading.specs.declared.board.Board.{Board}
 use Rattle.trading.specs.Boards.{day_of}
 use Rattle.trading.specs.Deeds.{entering}
-use Rattle.replay.specs.Days.{Day, Loading, Trading, Closed, CancelOrder, Answer}
+use Rattle.replay.specs.Days.{Day, Loading, Trading, Closed, CancelOrder}
 use Rattle.replay.specs.Days as days
 use Rattle.playback.specs.declared.call.Call.{Call}
 use Rattle.playback.specs.declared.call.Call.TheVariants.{Set, LoadLimit, LoadStop, Open, Enter, Cancel, FloorTrade, Resume, Close}
-use Rattle.playback.specs.declared.reply.Reply.{Reply}
-use Rattle.playback.specs.declared.reply.Reply.TheVariants.{Done, Number, Lines, Entered, Refused}
 use Rattle.playback.specs.declared.stage.Stage.{Stage}
 use Rattle.playback.specs.declared.stage.Stage.TheVariants.{Load, Trade, Shut}
 
 -- a call as the definitions have it, with so many free lines
 abbrev pub call_of : ℕ → Call → days.Call
 call_of f (Set k c p) = days.Set k c p
-call_of f (LoadLimit s m p q) = days.LoadLimit s m p q
-call_of f (LoadStop s m p q) = days.LoadStop s m p q
+call_of f (LoadLimit o) = days.LoadLimit o.side o.member o.price o.shares
+call_of f (LoadStop o) = days.LoadStop o.side o.member o.price o.shares
 call_of f Open = days.Open
 call_of f (Enter t) = entering t f
 call_of f (Cancel m n) = CancelOrder m n f
@@ -24,38 +22,23 @@ call_of f (FloorTrade p q) = days.FloorTrade p q f
 call_of f Resume = days.Resume f
 call_of f Close = days.Close
 
-abbrev pub answer_of : Reply → Answer
-answer_of Done = days.Done
-answer_of (Number n) = days.Number n
-answer_of (Lines k) = days.Lines k
-answer_of (Entered r) = days.Entered r.number r.lines
-answer_of (Refused k) = days.Refused k
-
--- the lines that a call wrote, by its reply
-abbrev pub lines_of : Reply → ℕ
-lines_of Done = 0
-lines_of (Number n) = 0
-lines_of (Lines k) = k
-lines_of (Entered r) = r.lines
-lines_of (Refused k) = 0
-
-module _ {R F : Type 0} where
-  abbrev pub day_in : Stage R F → Day
+module _ {R F : Type 0} {g : _} where
+  abbrev pub day_in : Stage R F g → Day
   day_in (Load d) = day_of Loading d.board
   day_in (Trade d) = day_of Trading d.board
   day_in (Shut d) = day_of Closed d.board
 
-  abbrev pub board_in : Stage R F → Board
+  abbrev pub board_in : Stage R F g → Board
   board_in (Load d) = d.board
   board_in (Trade d) = d.board
   board_in (Shut d) = d.board
 
-  abbrev pub rule_in : Stage R F → R
+  abbrev pub rule_in : Stage R F g → R
   rule_in (Load d) = d.rule
   rule_in (Trade d) = d.rule
   rule_in (Shut d) = d.rule
 
-  abbrev pub file_in : Stage R F → F
+  abbrev pub file_in : Stage R F g → F
   file_in (Load d) = d.file
   file_in (Trade d) = d.file
   file_in (Shut d) = d.file

@@ -1,5 +1,5 @@
 // The calls of a day as values.
-use market::words::Side;
+use market::words::PricedOrder;
 use orderbook::ticket::Ticket;
 
 #[derive(Clone, Copy)]
@@ -10,18 +10,8 @@ pub enum Call {
         column: char,
         last_sale: u32,
     },
-    LoadLimit {
-        side: Side,
-        member: u32,
-        price: u32,
-        shares: u32,
-    },
-    LoadStop {
-        side: Side,
-        member: u32,
-        price: u32,
-        shares: u32,
-    },
+    LoadLimit(PricedOrder),
+    LoadStop(PricedOrder),
     Open,
     Enter(Ticket),
     Cancel {

@@ -1,11 +1,12 @@
-// What a call answers, and what is seen of the day after it.
+// What a call answers or is refused for, and what is seen of the day after it.
 ghost use Rattle.std.specs.Prelude.{◌≡◌};
-ghost use Rattle.market.specs.Refusals.{number_of};
 ghost use Rattle.replay.specs.Days.{Phase};
 ghost use Rattle.trading.specs.Boards.{day_of};
-ghost use Rattle.playback.specs.Stages.{lines_of};
+ghost use Rattle.playback.specs.Replies.{lines_in, number_of};
+ghost use Rattle.playback.specs.declared.reply.CallRefusal.TheVariants.{Market};
 ghost use Rattle.playback.specs.Views.{view_of};
 
+use market::refusal::Refusal;
 use market::words::{Range, Side};
 use trading::answer::Receipt;
 use trading::board::Board;
@@ -19,19 +20,47 @@ pub enum Reply {
     Lines(usize),
     // both
     Entered(Receipt),
-    // the number of the refusal
-    Refused(u32),
 }
 
 impl Reply {
     // How many lines the call wrote.
     pub fn lines(self) -> usize
-        ensures { result ≡ lines_of self }
+        ensures { result ≡ lines_in self }
     {
         match self {
-            Reply::Done | Reply::Number(_) | Reply::Refused(_) => 0,
+            Reply::Done | Reply::Number(_) => 0,
             Reply::Lines(lines) => lines,
             Reply::Entered(receipt) => receipt.lines,
+        }
+    }
+}
+
+#[derive(Clone, Copy)]
+pub enum CallRefusal {
+    // the call does not belong to the phase of the day
+    OtherPhase,
+    // the market refuses it
+    Market(Refusal),
+}
+
+// The number of a call that does not belong to the phase of the day.
+pub const OTHER_PHASE: u32 = 21;
+
+impl From<Refusal> for CallRefusal {
+    ghost from_gives = { λ refusal whole. whole ≡ Market refusal };
+
+    fn from(refusal: Refusal) -> CallRefusal {
+        Self::Market(refusal)
+    }
+}
+
+impl CallRefusal {
+    pub fn number(self) -> u32
+        ensures { result ≡ number_of self }
+    {
+        match self {
+            CallRefusal::OtherPhase => OTHER_PHASE,
+            CallRefusal::Market(refusal) => refusal.number(),
         }
     }
 }

@@ -1,14 +1,14 @@
 // What came of a list of calls.
 ghost use Rattle.std.specs.Prelude.{◌≡◌, [], ◌∷◌, ◌++◌, OnOk};
 
-use crate::reply::{Reply, View};
+use crate::reply::{CallRefusal, Reply, View};
 use market::words::TapeLine;
 use std::alloc::{AllocError, Global};
 
 // The reply to each call, what was seen of the day after it, and the lines of all calls, one call after the other.
 #[derive(Drop)]
 pub struct Report {
-    pub replies: Vec<Reply>,
+    pub replies: Vec<Result<Reply, CallRefusal>>,
     pub views: Vec<View>,
     pub tape: Vec<TapeLine>,
 }
@@ -27,7 +27,7 @@ impl Report {
     // One call more.
     pub(crate) fn note(
         &mut self,
-        reply: Reply,
+        reply: Result<Reply, CallRefusal>,
         view: View,
         lines: &[TapeLine],
     ) -> Result<(), AllocError>

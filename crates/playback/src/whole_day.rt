@@ -2,13 +2,14 @@
 ghost use Rattle.std.specs.Prelude.{◌≡◌, map, length, IfOk, OnOk};
 ghost use Rattle.replay.specs.Days.{new_day};
 ghost use Rattle.replay.specs.Calls.{after_calls, answers};
-ghost use Rattle.playback.specs.Stages.{call_of, answer_of};
+ghost use Rattle.playback.specs.Replies.{answer_of};
+ghost use Rattle.playback.specs.Stages.{call_of};
 ghost use Rattle.playback.specs.Views.{views};
 ghost use Rattle.playback.specs.Lent.{lent};
 ghost use Rattle.playback.specs.Laws.{ListLaws};
 
 use crate::call::Call;
-use crate::reply::View;
+use crate::reply::{Reply, View};
 use crate::report::Report;
 use crate::stage::Stage;
 use crate::stage::steps::Stepped;
@@ -38,7 +39,7 @@ pub fn replay<R: ShareOut + Drop, F: StopFile + Drop>(
     let mut report = Report::new(heap);
     for call in calls {
         let Stepped { stage: next, reply } = stage.step(*call, lines);
-        let used = reply.lines();
+        let used = reply.map_or(0, Reply::lines);
         let view = View::of(next.board());
         report.note(reply, view, &lines[0..used])?;
         stage = next;

@@ -15,106 +15,76 @@ ghost use Rattle.replay.specs.StopsUnseen.{StopsUnseen};
 ghost use Rattle.replay.specs.TwoRules.{BothRules};
 
 // Days worked out by hand come out as they should.
-pub fn examples_hold() -> u8
+pub fn examples_hold()
     ensures { Examples }
-{
-    0
-}
+{}
 
 // Price and shares of stops that are never elected change nothing that anybody sees.
-pub fn unelected_stops_are_invisible() -> u8
+pub fn unelected_stops_are_invisible()
     ensures { StopsUnseen }
-{
-    0
-}
+{}
 
 // Limits and ranges are kept, the best bid is below the best offer, and nobody waits unless trading is paused.
-pub fn book_in_order() -> u8
+pub fn book_in_order()
     ensures { BookInOrder }
-{
-    0
-}
+{}
 
 // A filed stop is elected by the first print or floor trade that reaches it, and by nothing else.
-pub fn elected_by_the_first() -> u8
+pub fn elected_by_the_first()
     ensures { ElectedByFirst }
-{
-    0
-}
+{}
 
 // A stop is filed from its own call on.
-pub fn filed_at_once() -> u8
+pub fn filed_at_once()
     ensures { StopsAreFiled }
-{
-    0
-}
+{}
 
 // Shares add up, order by order, over the day and against the tape.
-pub fn shares_add_up() -> u8
+pub fn shares_add_up()
     ensures { SharesAddUp }
-{
-    0
-}
+{}
 
 // After every call the line is worked off, or trading is paused.
-pub fn line_is_worked_off() -> u8
+pub fn line_is_worked_off()
     ensures { WorkedOff }
-{
-    0
-}
+{}
 
 // A call writes no more lines than it asks for.
-pub fn lines_fit_the_need() -> u8
+pub fn lines_fit_the_need()
     ensures { TapeSuffices }
-{
-    0
-}
+{}
 
 // With 2,049 free lines no call is refused for want of lines.
-pub fn never_short_of_lines() -> u8
+pub fn never_short_of_lines()
     ensures { NeverShort }
-{
-    0
-}
+{}
 
 // A range in force stays through a call, and its prints show it.
-pub fn range_stays() -> u8
+pub fn range_stays()
     ensures { RangeStays }
-{
-    0
-}
+{}
 
 // Where no range is in force, the first run that prints shows 0 and 0, and the range then stands round its last print.
-pub fn range_begins() -> u8
+pub fn range_begins()
     ensures { RangeBegins }
-{
-    0
-}
+{}
 
 // Time priority and rotation are lawful.
-pub fn both_rules_are_lawful() -> u8
+pub fn both_rules_are_lawful()
     ensures { BothRules }
-{
-    0
-}
+{}
 
 // The orders of a day are numbered in turn, and the roll holds 512 of them.
-pub fn roll_holds_512() -> u8
+pub fn roll_holds_512()
     ensures { RollHolds }
-{
-    0
-}
+{}
 
 // No rule looks at the tape: calls on a day without its history give the same answers and lines.
-pub fn history_is_not_read() -> u8
+pub fn history_is_not_read()
     ensures { HistoryUnread }
-{
-    0
-}
+{}
 
 // Prices, members, class, last sale and range stay within what the market takes.
-pub fn numbers_in_bounds() -> u8
+pub fn numbers_in_bounds()
     ensures { NumbersInBounds }
-{
-    0
-}
+{}

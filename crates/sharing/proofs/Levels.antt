@@ -1,35 +1,29 @@
 -- Rounds by levels: after whole rounds every entry has been given shares up to the same level. Assumes nothing.
-use Rattle.std.proofs.Common.{◌≡◌, ℕ, zero, suc, ◌+◌, ◌-◌, ◌*◌, ◌/◌, ◌%◌, ◌<◌, ◌≤◌, min, Bool, true, false, cond, not, ◌&&◌, ◌||◌, eqb, ltb, List, [], ◌∷◌, length, sym, refl, ap, ◌∙◌, subst, ⊎_elim, mul_assoc, suc-mul, lt_of_mul-lt-mul_right, mul-le-mul_left, zero-mul, le-mul_of_pos_right, div-mul-le_self, mul_left_comm, arith}
-use native.Mathlib.Nat.{div-zero, lt-div-mul-add}
-use Rattle.std.specs.List.{AllByRecursion}
+use Rattle.std.proofs.Common.{◌≡◌, ℕ, zero, suc, ◌+◌, ◌-◌, ◌*◌, ◌/◌, ◌%◌, ◌<◌, ◌≤◌, min, Bool, true, false, cond, not, ◌&&◌, eqb, ltb, List, [], ◌∷◌, length, map, sym, refl, ap, ◌∙◌, subst, ⊎_elim, mul_assoc, suc-mul, lt_of_mul-lt-mul_right, mul-le-mul_left, le-mul_of_pos_right, div-mul-le_self, mul_left_comm, arith}
+use native.Mathlib.Nat.{lt-div-mul-add}
+use Rattle.std.specs.List.{AllByRecursion, list_any}
+use Rattle.std.proofs.lemmas.List.{length-map}
 use Rattle.std.proofs.lemmas.Bool.{cases_lt, cases_eq, cases_Bool, false≢true, eqb-true, eq-eqb, or_cases, or_left, or_right}
 use Rattle.std.proofs.lemmas.Bool.Decides.{nat_tests}
-use Rattle.sharing.specs.Shares.{lot, most_shares, most_entries, total, zeros}
+use Rattle.sharing.specs.Shares.{lot, most_shares, total, zeros}
 use Rattle.sharing.specs.Levels.{above, least_above, last_round}
-use Rattle.sharing.specs.Turns.{pointwise, round, rounds}
-use Rattle.sharing.specs.Keeps.{Lots, Whole, wholes, zeros_size, zeros_total, round_most, round_size, rounds_size, point_size}
+use Rattle.sharing.specs.Turns.{pointwise, round, rounds, in_rounds}
+use Rattle.sharing.specs.Keeps.{Lots, Shareable, Whole, wholes, zeros_size, zeros_total, round_most, round_size, rounds_size, point_size}
 
 -- what whole rounds up to a level have given, and what they leave open
 abbrev up_to : ℕ → List ℕ → List ℕ
-up_to l [] = []
-up_to l (a ∷ rest) = min a l ∷ up_to l rest
+up_to l row = map (λ a. min a l) row
 
 abbrev beyond : ℕ → List ℕ → List ℕ
-beyond l [] = []
-beyond l (a ∷ rest) = (a - l) ∷ beyond l rest
+beyond l row = map (λ a. a - l) row
 
 -- a round that the quantity pays for
 abbrev pub whole_round : List ℕ → List ℕ
-whole_round [] = []
-whole_round (a ∷ rest) = min lot a ∷ whole_round rest
+whole_round row = map (min lot) row
 
 -- whole rounds up to the level l, and k rounds after them
 abbrev pub after : ℕ → ℕ → List ℕ → ℕ → List ℕ
 after l k row q = pointwise ◌+◌ (up_to l row) (rounds k (beyond l row) q)
-
-beyond_size : (l : ℕ) (row : List ℕ) → length (beyond l row) ≡ length row
-beyond_size l [] = refl
-beyond_size l (a ∷ rest) = ap suc (beyond_size l rest)
 
 both : (x y : ℕ) (xs ys : List ℕ) → x ≡ y → xs ≡ ys → x ∷ xs ≡ y ∷ ys
 both x y xs ys e f = ap (λ z. z ∷ xs) e ∙ ap (λ zs. y ∷ zs) f
@@ -67,7 +61,7 @@ one_round k l q row e h p =
     let r : round open' q ≡ whole_round open' = pays open' q (omega arith) in
     ap (λ g. pointwise ◌+◌ (up_to l row) (pointwise ◌+◌ g (rounds k (pointwise ◌-◌ open' g) (q - total g)))) r
     ∙ ap (λ b. pointwise ◌+◌ (up_to l row) (pointwise ◌+◌ (whole_round open') (rounds k b (q - total (whole_round open'))))) (beyond_next l row)
-    ∙ up_to_next l row (rounds k (beyond (l + lot) row) (q - total (whole_round open'))) (rounds_size k (beyond (l + lot) row) _ ∙ beyond_size (l + lot) row)
+    ∙ up_to_next l row (rounds k (beyond (l + lot) row) (q - total (whole_round open'))) (rounds_size k (beyond (l + lot) row) _ ∙ length-map row _)
     ∙ ap (λ n. pointwise ◌+◌ (up_to (l + lot) row) (rounds k (beyond (l + lot) row) (q - n))) t
 
 -- the last round ------------------------------------------------------------------------------------------------------
@@ -172,8 +166,7 @@ jump (suc m) k l q row e h b p =
 
 -- the least entry above a level ---------------------------------------------------------------------------------------
 abbrev has : ℕ → List ℕ → Bool
-has x [] = false
-has x (a ∷ rest) = eqb x a || has x rest
+has x row = list_any (eqb x) row
 
 has_all : (P : ℕ → Type 0) (x : ℕ) (row : List ℕ) → AllByRecursion P row → has x row ≡ true → P x
 has_all P x [] h e = absurd (false≢true e)
@@ -221,9 +214,6 @@ least_is l row h some =
     let i : has (least_above l row) row ≡ true = least_has l row h some in
     record { over = least_over l row (under_most l row h some); lawful = has_all (Lots most_shares) (least_above l row) row h i; held = i }
 
-pub cost_asks : (l n least : ℕ) (row : List ℕ) → AllByRecursion (Lots most_shares) row → n ≡ above l row → least ≡ least_above l row → n ≤ most_entries → 0 < n → (l ≤ least) × ((least ≤ most_shares) × (n ≤ most_entries))
-cost_asks l n least row h count next few some = let i = least_is l row h (omega arith) in (omega (arith, i.over), (omega (arith, i.lawful.most), few))
-
 -- how many different entries are above a level
 abbrev pub kinds : ℕ → List ℕ → ℕ
 kinds l [] = 0
@@ -264,52 +254,66 @@ start_beyond (a ∷ rest) = both _ _ _ _ (omega arith) (start_beyond rest)
 pub after_none : (k q : ℕ) (row : List ℕ) → after 0 k row q ≡ rounds k row q
 after_none k q row = ap (λ r. pointwise ◌+◌ (up_to 0 row) (rounds k r q)) (start_beyond row) ∙ start_plus row (rounds k row q) (rounds_size k row q)
 
-module _ (row given : List ℕ) (l q n least k : ℕ) (h : AllByRecursion (Lots most_shares) row) (e : Whole l) (count : n ≡ above l row) (next : least ≡ least_above l row) (f : q ≤ lot * k) (is : after l k row q ≡ given) where
-  pub next_level : 0 < n → (least - l) * n ≤ q → (j : ℕ) × (q - (least - l) * n ≤ lot * j) × (after least j row (q - (least - l) * n) ≡ given)
-  next_level some pays' =
+-- what is kept between two levels: rounds of what is left, after whole rounds up to the level l, give what the quantity q gives
+pub record Stands (row : List ℕ) (q l left : ℕ) : Type 0 where
+  pub each : AllByRecursion (Lots most_shares) row
+  pub rounds : ℕ
+  pub enough : left ≤ lot * rounds
+  pub same : after l rounds row left ≡ in_rounds row q
+  pub within : l + left ≤ q
+  pub lots : Whole l
+
+pub stands_first : (row : List ℕ) (q : ℕ) → Shareable row q → Stands row q 0 q
+stands_first row q h = record { each = h.entries.each; rounds = q / lot; enough = omega (arith, h.quantity.lots); same = after_none (q / lot) q row; within = omega arith; lots = refl }
+
+pub none_left : (row : List ℕ) (q l left : ℕ) → Stands row q l left → above l row ≡ 0 → last_round l row left ≡ in_rounds row q
+none_left row q l left s z = last_after s.rounds l left row s.lots (wholes row s.each) s.enough (λ some. absurd (omega arith)) ∙ s.same
+
+module _ (row : List ℕ) (q l left n least : ℕ) (s : Stands row q l left) (some : 0 < n) (count : n ≡ above l row) (next : least ≡ least_above l row) where
+  pub is_next : Least l row
+  is_next = least_is l row s.each (omega arith)
+
+  pub next_level : (least - l) * n ≤ left → Stands row q least (left - (least - l) * n)
+  next_level pays' =
+      let k : ℕ = s.rounds in
       let m : ℕ = (least - l) / lot in
-      let is-least = least_is l row h (omega arith) in
-      let d : least - l ≡ lot * m = omega (arith, is-least.lawful.lots, is-least.over) in
+      let whole = s.lots in
+      let f = s.enough in
+      let d : least - l ≡ lot * m = omega (arith, is_next.lawful.lots, is_next.over) in
       let c : (least - l) * n ≡ m * (lot * above l row) = cost_is (least - l) m n d ∙ ap (λ x. m * (lot * x)) count in
-      let once : least - l ≤ (least - l) * n = le-mul_of_pos_right (least - l) some in (
-        k - m,
-        omega arith,
-        after_same least (l + lot * m) (k - m) (k - m) (q - (least - l) * n) (q - m * (lot * above l row)) row (omega (arith, is-least.over)) refl (omega arith)
-            ∙ sym (jump m (k - m) l q row e (wholes row h) (omega (arith, is-least.over)) (omega arith))
-            ∙ after_same l l (m + (k - m)) k q q row refl (omega arith) refl
-            ∙ is,
-      )
+      let once : least - l ≤ (least - l) * n = le-mul_of_pos_right (least - l) some in
+      record {
+        each = s.each;
+        rounds = k - m;
+        enough = omega arith;
+        same = after_same least (l + lot * m) (k - m) (k - m) (left - (least - l) * n) (left - m * (lot * above l row)) row (omega (arith, is_next.over)) refl (omega arith)
+            ∙ sym (jump m (k - m) l left row s.lots (wholes row s.each) (omega (arith, is_next.over)) (omega arith))
+            ∙ after_same l l (m + (k - m)) k left left row refl (omega arith) refl
+            ∙ s.same;
+        within = omega (arith, s.within, is_next.over);
+        lots = ap (λ x. x % lot) next ∙ is_next.lawful.lots;
+      }
 
-  pub last_level : (m : ℕ) → m ≡ q / (lot * n) → (0 < n → q < (least - l) * n) → last_round (l + lot * m) row (q - lot * m * n) ≡ given
-  last_level m d over = ⊎_elim some none (cases_lt 0 n)
-    where
-      none : n ≤ 0 → last_round (l + lot * m) row (q - lot * m * n) ≡ given
-      none z =
-          let by : lot * n ≡ 0 = omega arith in
-          let m₀ : m ≡ 0 = d ∙ ap (λ x. q / x) by ∙ div-zero q in
-          let c : lot * m * n ≡ 0 = ap (λ x. lot * x * n) m₀ ∙ zero-mul n in
-          let level : l + lot * m ≡ l = omega arith in
-          let left : q - lot * m * n ≡ q = omega arith in
-          ap (λ x. last_round x row (q - lot * m * n)) level ∙ ap (λ x. last_round l row x) left ∙ last_after k l q row e (wholes row h) f (λ s. absurd (omega arith)) ∙ is
-
-      some : 0 < n → last_round (l + lot * m) row (q - lot * m * n) ≡ given
-      some s =
-          let u : ℕ = lot * n in
-          let m₀ : ℕ = (least - l) / lot in
-          let is-least = least_is l row h (omega arith) in
-          let d₀ : least - l ≡ lot * m₀ = omega (arith, is-least.lawful.lots, is-least.over) in
-          let c₀ : (least - l) * n ≡ m₀ * u = cost_is (least - l) m₀ n d₀ in
-          let c : lot * m * n ≡ m * u = cost_is (lot * m) m n refl in
-          let is-u : u ≡ lot * above l row = ap (λ x. lot * x) count in
-          let at-u : m * u ≡ m * (lot * above l row) = ap (λ x. m * x) is-u in
-          let d' : m * u ≡ q / u * u = ap (λ x. x * u) d in
-          let b : q / u * u ≤ q = div-mul-le_self q u in
-          let b' : q < q / u * u + u = lt-div-mul-add {a = q} {b = u} (omega arith) in
-          let fewer : m < m₀ = lt_of_mul-lt-mul_right u (omega (arith, over s)) in
-          let once : m * lot ≤ m * u = mul-le-mul_left {m = lot} {n = u} m (omega arith) in
-          let same : above (l + lot * m) row ≡ above l row = above_same l (l + lot * m) row (omega arith) (omega (arith, is-least.over)) in
-          last_after (k - m) (l + lot * m) (q - lot * m * n) row (omega arith) (wholes row h) (omega arith) (λ _. omega arith)
-          ∙ after_same (l + lot * m) (l + lot * m) (k - m) (k - m) (q - lot * m * n) (q - m * (lot * above l row)) row refl refl (omega arith)
-          ∙ sym (jump m (k - m) l q row e (wholes row h) (omega (arith, is-least.over)) (omega arith))
-          ∙ after_same l l (m + (k - m)) k q q row refl (omega arith) refl
-          ∙ is
+  pub last_level : left < (least - l) * n → (m : ℕ) → m ≡ left / (lot * n) → last_round (l + lot * m) row (left - lot * m * n) ≡ in_rounds row q
+  last_level over m d =
+      let k : ℕ = s.rounds in
+      let whole = s.lots in
+      let f = s.enough in
+      let u : ℕ = lot * n in
+      let m₀ : ℕ = (least - l) / lot in
+      let d₀ : least - l ≡ lot * m₀ = omega (arith, is_next.lawful.lots, is_next.over) in
+      let c₀ : (least - l) * n ≡ m₀ * u = cost_is (least - l) m₀ n d₀ in
+      let c : lot * m * n ≡ m * u = cost_is (lot * m) m n refl in
+      let is-u : u ≡ lot * above l row = ap (λ x. lot * x) count in
+      let at-u : m * u ≡ m * (lot * above l row) = ap (λ x. m * x) is-u in
+      let d' : m * u ≡ left / u * u = ap (λ x. x * u) d in
+      let b : left / u * u ≤ left = div-mul-le_self left u in
+      let b' : left < left / u * u + u = lt-div-mul-add {a = left} {b = u} (omega arith) in
+      let fewer : m < m₀ = lt_of_mul-lt-mul_right u (omega arith) in
+      let once : m * lot ≤ m * u = mul-le-mul_left {m = lot} {n = u} m (omega arith) in
+      let same : above (l + lot * m) row ≡ above l row = above_same l (l + lot * m) row (omega arith) (omega (arith, is_next.over)) in
+      last_after (k - m) (l + lot * m) (left - lot * m * n) row (omega arith) (wholes row s.each) (omega arith) (λ _. omega arith)
+      ∙ after_same (l + lot * m) (l + lot * m) (k - m) (k - m) (left - lot * m * n) (left - m * (lot * above l row)) row refl refl (omega arith)
+      ∙ sym (jump m (k - m) l left row s.lots (wholes row s.each) (omega (arith, is_next.over)) (omega arith))
+      ∙ after_same l l (m + (k - m)) k left left row refl (omega arith) refl
+      ∙ s.same

@@ -1,5 +1,7 @@
 -- Time priority keeps the order of the row, and rounds take turns; nothing else does. Assumes nothing.
-use Rattle.std.proofs.Common.{◌≡◌, ℕ, zero, suc, ◌+◌, ◌-◌, ◌/◌, ◌<◌, ◌≤◌, min, true, List, [], ◌∷◌, length, get_or, sym, refl, ap, ◌∙◌, subst, ⊎_elim, arith}
+use Rattle.std.proofs.Common.{◌≡◌, ℕ, zero, suc, ◌+◌, ◌-◌, ◌/◌, ◌<◌, ◌≤◌, min, true, List, [], ◌∷◌, length, get_or, sym, refl, ◌∙◌, subst, ⊎_elim, arith}
+use Rattle.std.proofs.Math.ListN.{get_or-map}
+use Rattle.std.proofs.lemmas.List.{length-map}
 use Rattle.std.proofs.lemmas.Bool.{cases_lt}
 use Rattle.sharing.specs.Shares.{lot, total, zeros, shareable}
 use Rattle.sharing.specs.Turns.{pointwise, round, rounds, in_rounds, in_row_order, KeepsOrder, TakesTurns, Alone}
@@ -14,9 +16,7 @@ at_zeros (a ∷ rest) zero = refl
 at_zeros (a ∷ rest) (suc i) = at_zeros rest i
 
 at_whole : (row : List ℕ) (i : ℕ) → get_or (whole_round row) i 0 ≡ min lot (get_or row i 0)
-at_whole [] i = refl
-at_whole (a ∷ rest) zero = refl
-at_whole (a ∷ rest) (suc i) = at_whole rest i
+at_whole row i = get_or-map (min lot) row i 0
 
 at_point : (f : ℕ → ℕ → ℕ) → f 0 0 ≡ 0 → (xs ys : List ℕ) → length ys ≡ length xs → (i : ℕ) → get_or (pointwise f xs ys) i 0 ≡ f (get_or xs i 0) (get_or ys i 0)
 at_point f z [] [] e i = sym z
@@ -24,10 +24,6 @@ at_point f z [] (y ∷ ys) e i = absurd (omega arith)
 at_point f z (x ∷ xs) [] e i = absurd (omega arith)
 at_point f z (x ∷ xs) (y ∷ ys) e zero = refl
 at_point f z (x ∷ xs) (y ∷ ys) e (suc i) = at_point f z xs ys (omega arith) i
-
-whole_size : (row : List ℕ) → length (whole_round row) ≡ length row
-whole_size [] = refl
-whole_size (a ∷ rest) = ap suc (whole_size rest)
 
 -- rounds take turns ------------------------------------------------------------------------------------------------
 at_round : (row : List ℕ) (q j : ℕ) → get_or (round row q) j 0 ≤ min lot q
@@ -48,9 +44,9 @@ zeros_turns row i j h = let z = at_zeros row j in (omega arith, λ k. omega arit
 -- a whole round, and then rounds that take turns
 later_turns : (row later : List ℕ) → length later ≡ length row → TakesTurns (pointwise ◌-◌ row (whole_round row)) later → TakesTurns row (pointwise ◌+◌ (whole_round row) later)
 later_turns row later e turns i j h =
-    let gi = at_point ◌+◌ refl (whole_round row) later (e ∙ sym (whole_size row)) i in
-    let gj = at_point ◌+◌ refl (whole_round row) later (e ∙ sym (whole_size row)) j in
-    let oi = at_point ◌-◌ refl row (whole_round row) (whole_size row) i in
+    let gi = at_point ◌+◌ refl (whole_round row) later (e ∙ sym (length-map row _)) i in
+    let gj = at_point ◌+◌ refl (whole_round row) later (e ∙ sym (length-map row _)) j in
+    let oi = at_point ◌-◌ refl row (whole_round row) (length-map row _) i in
     let wi = at_whole row i in
     let wj = at_whole row j in
     let t = turns i j (omega arith) in

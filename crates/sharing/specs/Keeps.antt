@@ -2,6 +2,7 @@
 use Rattle.std.specs.Prelude.{◌≡◌, ℕ, zero, suc, ◌+◌, ◌-◌, ◌*◌, ◌/◌, ◌%◌, ◌<◌, ◌≤◌, min, Bool, true, false, cond, ◌&&◌, List, [], ◌∷◌, length, ◌==◌, nat_le, refl}
 use Rattle.std.proofs.Common.{sym, ap, subst, ◌∙◌, arith}
 use Rattle.std.specs.List.{AllZip, AllByRecursion}
+use Rattle.std.proofs.lemmas.List.{length-replicate}
 use Rattle.std.proofs.lemmas.Bool.{and_parts, and_from, leb-true, le-leb, eqb-true, eq-eqb, cond-true, cond-false}
 use Rattle.sharing.specs.Shares.{lot, most_shares, most_entries, total, zeros, whole_lots, all_lawful, lawful_row, shareable, guarded, LawfulRule}
 use Rattle.sharing.specs.Turns.{in_row_order, by_time, pointwise, round, rounds, in_rounds, by_rotation}
@@ -84,8 +85,7 @@ parts_lots (g ∷ gs) [] h = absurd h
 parts_lots (g ∷ gs) (a ∷ row) h = (h.0.0, parts_lots gs row h.1)
 
 pub zeros_size : (row : List ℕ) → length (zeros row) ≡ length row
-zeros_size [] = refl
-zeros_size (a ∷ rest) = ap suc (zeros_size rest)
+zeros_size row = length-replicate (length row) 0
 
 zeros_parts : (row : List ℕ) → AllZip Part (zeros row) row
 zeros_parts [] = tt

@@ -12,7 +12,11 @@ abbrev pub least_above : ℕ → List ℕ → ℕ
 least_above l [] = most_shares
 least_above l (a ∷ rest) = cond (nat_lt l a) (min a (least_above l rest)) (least_above l rest)
 
+-- in row order, after each entry has been given shares up to the level l: no more than m to each, while some of the quantity is left
+abbrev pub in_order_above : ℕ → ℕ → List ℕ → ℕ → List ℕ
+in_order_above l m [] q = []
+in_order_above l m (a ∷ rest) q = (min a l + min m (min (a - l) q)) ∷ in_order_above l m rest (q - min m (min (a - l) q))
+
 -- one more round, after each entry has been given shares up to the level l
 abbrev pub last_round : ℕ → List ℕ → ℕ → List ℕ
-last_round l [] q = []
-last_round l (a ∷ rest) q = (min a l + min lot (min (a - l) q)) ∷ last_round l rest (q - min lot (min (a - l) q))
+last_round l = in_order_above l lot

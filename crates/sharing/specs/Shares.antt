@@ -1,6 +1,6 @@
 -- Rows of open shares, and what a share-out rule owes. Assumes nothing.
-use Rattle.std.specs.Prelude.{◌≡◌, ℕ, ◌+◌, ◌%◌, ◌≤◌, Bool, true, false, cond, ◌&&◌, List, [], ◌∷◌, length, ◌==◌, nat_le}
-use Rattle.std.specs.List.{AllZip, AllByRecursion}
+use Rattle.std.specs.Prelude.{◌≡◌, ℕ, ◌+◌, ◌%◌, ◌≤◌, Bool, true, false, cond, ◌&&◌, List, [], ◌∷◌, length, ◌==◌, nat_le, replicate}
+use Rattle.std.specs.List.{AllZip, AllByRecursion, list_all}
 
 -- shares are traded in lots
 abbrev pub lot : ℕ
@@ -19,16 +19,14 @@ total [] = 0
 total (a ∷ rest) = a + total rest
 
 abbrev pub zeros : List ℕ → List ℕ
-zeros [] = []
-zeros (a ∷ rest) = 0 ∷ zeros rest
+zeros row = replicate (length row) 0
 
 -- whole lots, at least one, and no more than so many shares
 abbrev pub whole_lots : ℕ → ℕ → Bool
 whole_lots most n = nat_le lot n && nat_le n most && n % lot == 0
 
 abbrev pub all_lawful : List ℕ → Bool
-all_lawful [] = true
-all_lawful (a ∷ rest) = whole_lots most_shares a && all_lawful rest
+all_lawful row = list_all (whole_lots most_shares) row
 
 -- 1 to 512 entries, each a multiple of 100 from 100 to 1,000,000
 abbrev pub lawful_row : List ℕ → Bool

@@ -1,44 +1,50 @@
-ghost use Rattle.std.specs.Prelude.{◌≡◌, ◌-◌, ◌*◌, ◌/◌, ◌≤◌, true, length};
-ghost use Rattle.sharing.specs.Shares.{shareable, lot, most_shares, most_entries};
+ghost use Rattle.std.specs.Prelude.{◌≡◌, ◌-◌, ◌*◌, ◌/◌, ◌<◌, ◌≤◌, true, IsNone, IfSome};
+ghost use Rattle.sharing.specs.Shares.{shareable, lawful_row, lot, most_shares, most_entries};
 ghost use Rattle.sharing.specs.Levels.{above, least_above, last_round};
 ghost use Rattle.sharing.specs.Turns.{in_rounds, by_rotation, TakesTurns, Alone};
 ghost use Rattle.sharing.specs.Keeps.{rotation_lawful};
 
-use crate::rule::{LOT, MOST_SHARES, ShareOut, can_share, give_nothing};
+use crate::rule::{LOT, MOST_SHARES, ShareOut, can_share, give_in_order, give_nothing};
 
 // Gives 100 to each unfilled entry in row order, round after round, until the quantity is spent.
 #[derive(Clone, Copy, PartialEq, Eq, Debug)]
 pub struct Rotation;
 
-// The entries above a level: how many, and the least of them.
+// The entries above a level, where there are some: how many, and the least of them.
 #[derive(Clone, Copy)]
 struct Unfilled {
     count: u32,
     least: u32,
+    ghost some: { 0 < count },
+    ghost few: { count ≤ most_entries },
+    ghost lawful: { least ≤ most_shares },
 }
 
 impl Unfilled {
     // What the rounds from the level to the least of the entries come to.
     fn cost(self, level: u32) -> u32
-        requires { (level ≤ self.least) × ((self.least ≤ most_shares) × (self.count ≤ most_entries)) }
+        requires { level ≤ self.least }
         ensures { result ≡ (self.least - level) * self.count }
     {
         (self.least - level) * self.count
     }
+
+    // How many whole rounds a quantity pays for.
+    fn rounds_paid(self, left: u32) -> u32
+        ensures rounds { result ≡ left / (lot * self.count) }
+        ensures within { lot * result ≤ left }
+        ensures paid { lot * result * self.count ≤ left }
+    {
+        left / (LOT * self.count)
+    }
 }
 
-// Where whole rounds end: every entry has been given shares up to the level, or is filled, and the last round shares out what is left.
-#[derive(Clone, Copy)]
-struct Paid {
-    level: u32,
-    left: u32,
-}
-
-fn entries_above(row: &[u32], level: u32) -> Unfilled
-    requires { length row.now ≤ most_entries }
-    ensures count { result.count ≡ above level row.now }
-    ensures least { result.least ≡ least_above level row.now }
-    ensures few { result.count ≤ length row.now }
+// In one pass, as no call may scan more than it must; none where every entry is filled.
+fn entries_above(row: &[u32], level: u32) -> Option<Unfilled>
+    requires { lawful_row row.now ≡ true }
+    ensures none { IsNone result → above level row.now ≡ 0 }
+    ensures count { IfSome result (λ unfilled. unfilled.count ≡ above level row.now) }
+    ensures least { IfSome result (λ unfilled. unfilled.least ≡ least_above level row.now) }
 {
     let mut count = 0;
     let mut least = MOST_SHARES;
@@ -48,61 +54,41 @@ fn entries_above(row: &[u32], level: u32) -> Unfilled
             least = least.min(*entry);
         }
     }
-    Unfilled { count, least }
+    if count == 0 {
+        return None;
+    }
+    Some(Unfilled { count, least })
 }
 
-// How many whole rounds a quantity pays for.
-fn rounds_paid(left: u32, count: u32) -> u32
-    requires { count ≤ most_entries }
-    ensures rounds { result ≡ left / (lot * count) }
-    ensures within { lot * result ≤ left }
-    ensures paid { lot * result * count ≤ left }
-{
-    if count == 0 { 0 } else { left / (LOT * count) }
+// Where whole rounds end: every entry has been given shares up to the level, or is filled, and the last round shares out what is left.
+#[derive(Clone, Copy)]
+struct Paid {
+    level: u32,
+    left: u32,
 }
 
 // Pays for all rounds up to the least unfilled entry at once, as long as the quantity does, and then for the whole rounds that it still
-// pays for. Each turn of the loop scans the row once and fills all entries of one size, so there are at most as many turns as
-// different entries: that number is the loop's measure.
+// pays for. Each turn of the loop scans the row once and fills all entries of one size, so there are at most as many turns as different entries: that number
+// is the loop's measure.
 fn whole_rounds(row: &[u32], quantity: u32) -> Paid
     requires { shareable row.now quantity ≡ true }
     ensures { last_round result.level row.now result.left ≡ in_rounds row.now quantity }
 {
     let mut level = 0;
     let mut left = quantity;
-    let mut unfilled = entries_above(row, level);
-    while unfilled.count > 0 && unfilled.cost(level) <= left {
-        left -= unfilled.cost(level);
+    while let Some(unfilled) = entries_above(row, level) {
+        let cost = unfilled.cost(level);
+        if cost > left {
+            let rise = LOT * unfilled.rounds_paid(left);
+            return Paid {
+                level: level + rise,
+                left: left - rise * unfilled.count,
+            };
+        }
         level = unfilled.least;
-        unfilled = entries_above(row, level);
+        left -= cost;
     }
-    let rise = LOT * rounds_paid(left, unfilled.count);
-    Paid {
-        level: level + rise,
-        left: left - rise * unfilled.count,
-    }
-}
-
-// The last round: 100 more in row order while some is left.
-fn last_round(row: &mut [u32], level: u32, quantity: u32)
-    ensures { row.new ≡ last_round level row.old quantity }
-{
-    let mut left = quantity;
-    for entry in row.iter_mut() {
-        let paid = (*entry).min(level);
-        let gift = (*entry - paid).min(left).min(LOT);
-        *entry = paid + gift;
-        left -= gift;
-    }
-}
-
-fn rotate(row: &mut [u32], quantity: u32)
-    requires { shareable row.old quantity ≡ true }
-    ensures gifts { row.new ≡ in_rounds row.old quantity }
-    ensures alone { Alone TakesTurns row.old quantity row.new }
-{
-    let paid = whole_rounds(row, quantity);
-    last_round(row, paid.level, paid.left);
+    Paid { level, left }
 }
 
 impl ShareOut for Rotation {
@@ -116,7 +102,9 @@ impl ShareOut for Rotation {
         ensures alone { shareable row.old quantity ≡ true → Alone TakesTurns row.old quantity row.new }
     {
         if can_share(row, quantity) {
-            rotate(row, quantity);
+            let paid = whole_rounds(row, quantity);
+            // The last round: 100 more in row order while some is left.
+            give_in_order(row, paid.level, LOT, paid.left);
         } else {
             give_nothing(row);
         }

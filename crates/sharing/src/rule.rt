@@ -1,6 +1,8 @@
 ghost use Rattle.std.specs.Prelude.{◌≡◌, ℕ, true, List, if◌then◌else◌};
 ghost use Rattle.sharing.specs.Shares.{total, whole_lots, lawful_row, shareable, zeros, LawfulRule};
+ghost use Rattle.sharing.specs.Levels.{in_order_above};
 
+// The crate market has these bounds under its own names: this crate stands alone, and knows rows of numbers and no market.
 // Shares are traded in lots.
 pub const LOT: u32 = 100;
 
@@ -18,6 +20,9 @@ pub trait ShareOut {
     // What every rule owes, and generic code may use.
     ghost lawful: { (r : Self) → LawfulRule (gifts r) };
 
+    // Each rule asks `can_share` itself: a method for lawful rows only would be public and ask that of its caller, which the project rules
+    // out, and a closure for what a lawful row gets would have to carry the clauses of both rules.
+    //
     // Replaces each entry by its gift. A row or a quantity that cannot be shared out has gifts of 0.
     fn share_out(&self, row: &mut [u32], quantity: u32)
         ensures { row.new ≡ gifts self.now row.old quantity };
@@ -27,21 +32,14 @@ pub trait ShareOut {
 fn is_whole_lots(shares: u32, most: u32) -> bool
     ensures { result ≡ whole_lots most shares }
 {
-    shares >= LOT && shares <= most && shares % LOT == 0
+    (LOT..=most).contains(&shares) && shares.is_multiple_of(LOT)
 }
 
 fn is_lawful_row(row: &[u32]) -> bool
     ensures { result ≡ lawful_row row.now }
 {
-    if row.is_empty() || row.len() > MOST_ENTRIES {
-        return false;
-    }
-    for entry in row {
-        if !is_whole_lots(*entry, MOST_SHARES) {
-            return false;
-        }
-    }
-    true
+    (1..=MOST_ENTRIES).contains(&row.len())
+        && row.iter().all(|entry| is_whole_lots(*entry, MOST_SHARES))
 }
 
 // The sum of a lawful row: 512 entries of 1,000,000 fit.
@@ -49,11 +47,7 @@ fn sum_of(row: &[u32]) -> u32
     requires { lawful_row row.now ≡ true }
     ensures { result ≡ total row.now }
 {
-    let mut sum = 0;
-    for entry in row {
-        sum += *entry;
-    }
-    sum
+    row.iter().sum()
 }
 
 // Whether the quantity can be shared out over the row: else every rule gives nothing.
@@ -67,8 +61,19 @@ pub fn can_share(row: &[u32], quantity: u32) -> bool
 pub(crate) fn give_nothing(row: &mut [u32])
     ensures { row.new ≡ zeros row.old }
 {
+    row.fill(0);
+}
+
+// Gives in row order while some of the quantity is left: each entry what it has up to the level, and then at most so many shares.
+pub(crate) fn give_in_order(row: &mut [u32], level: u32, most: u32, quantity: u32)
+    ensures { row.new ≡ in_order_above level most row.old quantity }
+{
+    let mut left = quantity;
     for entry in row.iter_mut() {
-        *entry = 0;
+        let paid = (*entry).min(level);
+        let gift = (*entry - paid).min(left).min(most);
+        *entry = paid + gift;
+        left -= gift;
     }
 }
 

@@ -3,13 +3,15 @@ use crate::rotation::Rotation;
 use crate::rule::{ShareOut, share_out_counted};
 use crate::time_priority::TimePriority;
 
+fn gifts<R: ShareOut>(rule: &R, row: &[u32; 4], quantity: u32) -> [u32; 4] {
+    let mut gifts = *row;
+    rule.share_out(&mut gifts, quantity);
+    gifts
+}
+
 // Whether both rules give these gifts.
 fn give(row: &[u32; 4], quantity: u32, turns: &[u32; 4], order: &[u32; 4]) -> bool {
-    let mut a = *row;
-    Rotation.share_out(&mut a, quantity);
-    let mut b = *row;
-    TimePriority.share_out(&mut b, quantity);
-    a == *turns && b == *order
+    gifts(&Rotation, row, quantity) == *turns && gifts(&TimePriority, row, quantity) == *order
 }
 
 #[test]

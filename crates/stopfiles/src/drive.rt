@@ -1,53 +1,29 @@
 // The same calls to two stop files, and a comparison of all that they answer.
 ghost use Rattle.std.specs.Prelude.{◌≡◌, true, ◌&&◌};
+ghost use Rattle.stopfiles.specs.Answers.{answer_to, stops_after};
 
 use crate::calls::{Call, Mix, Random, next_call};
 use market::words::Stop;
 use stops::stop_file::{NotAdded, StopFile};
 
-// Whether both answered the same, and whether the call did anything.
-#[derive(Clone, Copy)]
-pub(crate) struct Seen {
-    pub(crate) same: bool,
-    pub(crate) done: bool,
+// What a file answers to a call.
+#[derive(Clone, Copy, PartialEq, Eq)]
+pub(crate) enum Answer {
+    Added(Result<(), NotAdded>),
+    Removed(Option<u32>),
+    Taken(Option<Stop>),
 }
 
-fn both_add<F: StopFile, G: StopFile>(first: &mut F, second: &mut G, stop: Stop) -> Seen
-    ensures same { F.StopFile.stops first.old ≡ G.StopFile.stops second.old → F.StopFile.room first.old ≡ G.StopFile.room second.old → result.same ≡ true }
-    ensures lists { F.StopFile.stops first.old ≡ G.StopFile.stops second.old → F.StopFile.room first.old ≡ G.StopFile.room second.old → F.StopFile.stops first.new ≡ G.StopFile.stops second.new }
-    ensures rooms { F.StopFile.room first.old ≡ G.StopFile.room second.old → F.StopFile.room first.new ≡ G.StopFile.room second.new }
+// Puts a call to a file.
+fn put<F: StopFile>(file: &mut F, call: Call) -> Answer
+    ensures answer { result ≡ answer_to (F.StopFile.room file.old) call (F.StopFile.stops file.old) }
+    ensures listed { F.StopFile.stops file.new ≡ stops_after (F.StopFile.room file.old) call (F.StopFile.stops file.old) }
+    ensures keeps { F.StopFile.room file.new ≡ F.StopFile.room file.old }
 {
-    let one = first.add(stop);
-    let other = second.add(stop);
-    Seen {
-        same: one == other,
-        done: one.is_ok(),
-    }
-}
-
-fn both_remove<F: StopFile, G: StopFile>(first: &mut F, second: &mut G, number: u32) -> Seen
-    ensures same { F.StopFile.stops first.old ≡ G.StopFile.stops second.old → result.same ≡ true }
-    ensures lists { F.StopFile.stops first.old ≡ G.StopFile.stops second.old → F.StopFile.stops first.new ≡ G.StopFile.stops second.new }
-    ensures rooms { F.StopFile.room first.old ≡ G.StopFile.room second.old → F.StopFile.room first.new ≡ G.StopFile.room second.new }
-{
-    let one = first.remove(number);
-    let other = second.remove(number);
-    Seen {
-        same: one == other,
-        done: one.is_some(),
-    }
-}
-
-fn both_take<F: StopFile, G: StopFile>(first: &mut F, second: &mut G, price: u32) -> Seen
-    ensures same { F.StopFile.stops first.old ≡ G.StopFile.stops second.old → result.same ≡ true }
-    ensures lists { F.StopFile.stops first.old ≡ G.StopFile.stops second.old → F.StopFile.stops first.new ≡ G.StopFile.stops second.new }
-    ensures rooms { F.StopFile.room first.old ≡ G.StopFile.room second.old → F.StopFile.room first.new ≡ G.StopFile.room second.new }
-{
-    let one = first.take_at(price);
-    let other = second.take_at(price);
-    Seen {
-        same: one == other,
-        done: one.is_some(),
+    match call {
+        Call::Add(stop) => Answer::Added(file.add(stop)),
+        Call::Remove(number) => Answer::Removed(file.remove(number)),
+        Call::TakeAt(price) => Answer::Taken(file.take_at(price)),
     }
 }
 
@@ -68,31 +44,18 @@ pub(crate) struct Tally {
 }
 
 impl Tally {
-    fn note(&mut self, call: Call, seen: Seen, level: bool)
-        ensures { self.new.same ≡ (self.old.same && (seen.same && level)) }
+    fn note(&mut self, answer: Answer, same: bool)
+        ensures { self.new.same ≡ (self.old.same && same) }
     {
-        self.same = self.same && seen.same && level;
-        if !seen.done {
-            self.idle = self.idle.saturating_add(1);
-            return;
+        self.same = self.same && same;
+        match answer {
+            Answer::Added(Ok(())) => self.added = self.added.saturating_add(1),
+            Answer::Removed(Some(_)) => self.removed = self.removed.saturating_add(1),
+            Answer::Taken(Some(_)) => self.taken = self.taken.saturating_add(1),
+            Answer::Added(Err(_)) | Answer::Removed(None) | Answer::Taken(None) => {
+                self.idle = self.idle.saturating_add(1);
+            }
         }
-        match call {
-            Call::Add(_) => self.added = self.added.saturating_add(1),
-            Call::Remove(_) => self.removed = self.removed.saturating_add(1),
-            Call::TakeAt(_) => self.taken = self.taken.saturating_add(1),
-        }
-    }
-}
-
-fn both<F: StopFile, G: StopFile>(first: &mut F, second: &mut G, call: Call) -> Seen
-    ensures same { F.StopFile.stops first.old ≡ G.StopFile.stops second.old → F.StopFile.room first.old ≡ G.StopFile.room second.old → result.same ≡ true }
-    ensures lists { F.StopFile.stops first.old ≡ G.StopFile.stops second.old → F.StopFile.room first.old ≡ G.StopFile.room second.old → F.StopFile.stops first.new ≡ G.StopFile.stops second.new }
-    ensures rooms { F.StopFile.room first.old ≡ G.StopFile.room second.old → F.StopFile.room first.new ≡ G.StopFile.room second.new }
-{
-    match call {
-        Call::Add(stop) => both_add(first, second, stop),
-        Call::Remove(number) => both_remove(first, second, number),
-        Call::TakeAt(price) => both_take(first, second, price),
     }
 }
 
@@ -115,9 +78,9 @@ pub(crate) fn drive<F: StopFile, G: StopFile>(
     };
     for _ in 0..mix.calls {
         let call = next_call(random, mix, last);
-        let seen = both(first, second, call);
-        let level = as_many(first, second);
-        tally.note(call, seen, level);
+        let one = put(first, call);
+        let other = put(second, call);
+        tally.note(one, one == other && as_many(first, second));
     }
     tally
 }

@@ -1,15 +1,33 @@
 -- The first stop that passes a test, and what is left without it.
-use Rattle.std.proofs.Common.{◌≡◌, ℕ, zero, suc, ◌+◌, ◌≤◌, Bool, true, false, cond, not, List, [], ◌∷◌, length, Some, None, filter, sym, refl, ap, ◌∙◌, one-add, arith}
-use Rattle.std.specs.List.{prefix_len, remove, slice_get}
+use Rattle.std.proofs.Common.{◌≡◌, ℕ, zero, suc, ◌+◌, ◌≤◌, Bool, true, false, cond, not, ltb, List, [], ◌∷◌, length, Some, None, filter, sym, refl, ap, ◌∙◌, one-add, arith}
+use Rattle.std.specs.List.{position, prefix_len, remove, slice_get, AllByRecursion}
+use Rattle.std.proofs.lemmas.Bool.{ltb-false}
 use Rattle.market.specs.declared.words.Stop.{Stop}
 use Rattle.stops.specs.Stops.{first_by, without_by, without_first}
+
+-- where `position` finds none, none passes
+module _ {X : Type 0} (t : X → Bool) where
+  past_all : (xs : List X) → length xs ≤ prefix_len (λ x. not (t x)) xs → AllByRecursion (λ x. t x ≡ false) xs
+  past_all [] h = tt
+  past_all (x ∷ xs) h = go (t x) refl h (past_all xs)
+    where
+      go : (b : Bool) → t x ≡ b → suc (length xs) ≤ cond (not b) (1 + prefix_len (λ x. not (t x)) xs) 0 → (length xs ≤ prefix_len (λ x. not (t x)) xs → AllByRecursion (λ x. t x ≡ false) xs) → AllByRecursion (λ x. t x ≡ false) (x ∷ xs)
+      go true e k ih = absurd (omega arith)
+      go false e k ih = (e, ih (omega arith))
+
+  pub unfound : (xs : List X) → None ≡ position t xs → AllByRecursion (λ x. t x ≡ false) xs
+  unfound xs e = go (ltb (prefix_len (λ x. not (t x)) xs) (length xs)) refl e
+    where
+      go : (b : Bool) → ltb (prefix_len (λ x. not (t x)) xs) (length xs) ≡ b → None ≡ cond b (Some (prefix_len (λ x. not (t x)) xs)) None → AllByRecursion (λ x. t x ≡ false) xs
+      go true h k = absurd (let z : ◌≡◌ {A = ℕ} 0 1 = cc in omega arith)
+      go false h k = past_all xs (ltb-false (prefix_len (λ x. not (t x)) xs) (length xs) h)
 
 module _ (t : Stop → Bool) where
   abbrev pub past : Stop → Bool
   past s = not (t s)
 
   -- by its place
-  pub first_nth : (ss : List Stop) → slice_get ss (prefix_len past ss) ≡ first_by t ss
+  first_nth : (ss : List Stop) → slice_get ss (prefix_len past ss) ≡ first_by t ss
   first_nth [] = refl
   first_nth (x ∷ xs) = go (t x) (first_nth xs)
     where
@@ -17,13 +35,28 @@ module _ (t : Stop → Bool) where
       go true ih = refl
       go false ih = rw one-add ih
 
-  pub without_removed : (ss : List Stop) → remove ss (prefix_len past ss) ≡ without_by t ss
+  without_removed : (ss : List Stop) → remove ss (prefix_len past ss) ≡ without_by t ss
   without_removed [] = refl
   without_removed (x ∷ xs) = go (t x) (without_removed xs)
     where
       go : (b : Bool) → remove xs (prefix_len past xs) ≡ without_by t xs → remove (x ∷ xs) (cond (not b) (1 + prefix_len past xs) 0) ≡ cond b xs (x ∷ without_by t xs)
       go true ih = refl
       go false ih = rw one-add (ap (λ (l : List Stop). x ∷ l) ih)
+
+  -- where `position` finds one, and where it finds none
+  pub placed : (ss : List Stop) (i : ℕ) → Some i ≡ position t ss → (slice_get ss i ≡ first_by t ss) × (remove ss i ≡ without_by t ss)
+  placed ss i e = go (ltb (prefix_len past ss) (length ss)) e
+    where
+      go : (b : Bool) → Some i ≡ cond b (Some (prefix_len past ss)) None → (slice_get ss i ≡ first_by t ss) × (remove ss i ≡ without_by t ss)
+      go true k = let q : i ≡ prefix_len past ss = cc in (ap (slice_get ss) q ∙ first_nth ss, ap (remove ss) q ∙ without_removed ss)
+      go false k = absurd (let z : ◌≡◌ {A = ℕ} 0 1 = cc in omega arith)
+
+  pub none_first : (ss : List Stop) → AllByRecursion (λ u. t u ≡ false) ss → first_by t ss ≡ None
+  none_first [] h = refl
+  none_first (u ∷ us) h = ap (λ (b : Bool). cond b (Some u) (first_by t us)) h.0 ∙ none_first us h.1
+
+  pub unplaced : (ss : List Stop) → None ≡ position t ss → first_by t ss ≡ None
+  unplaced ss e = none_first ss (unfound t ss e)
 
   -- one more taken
   pub kept_more : (ss : List Stop) (s : Stop) → first_by t ss ≡ Some s → filter t ss ≡ s ∷ filter t (without_by t ss)

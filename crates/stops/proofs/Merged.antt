@@ -1,54 +1,18 @@
 -- One stop more or less in two tables, and what that makes of the list by number.
-use Rattle.std.proofs.Common.{◌≡◌, ℕ, zero, suc, ◌<◌, ◌≤◌, Bool, true, false, cond, not, ◌&&◌, eqb, ltb, List, [], ◌∷◌, ◌++◌, map, take, drop, Some, None, Option, sym, refl, ap, ◌∙◌, subst, ⊎_elim, append_assoc, arith, take-append-drop, MatchOption}
-use Rattle.std.specs.List.{insert, remove, AllByRecursion, list_all, slice_get}
+use Rattle.std.proofs.Common.{◌≡◌, ℕ, ◌<◌, ◌≤◌, Bool, true, false, cond, ◌&&◌, ltb, List, [], ◌∷◌, ◌++◌, map, take, drop, Some, None, Option, sym, refl, ap, ◌∙◌, subst, ⊎_elim, append_assoc, arith, take-append-drop, MatchOption}
+use Rattle.std.specs.List.{insert, AllByRecursion, list_all}
 use Rattle.std.proofs.ByRecursion.{All-weaker}
 use Rattle.std.proofs.lemmas.List.{map-append}
-use Rattle.std.proofs.lemmas.Bool.{cases_lt, and_parts, and_from, lt-ltb, le-ltb, ltb-true, ltb-false, eqb-false, ne_eqb, not-true}
-use Rattle.market.specs.Files.{filed, InOrder}
+use Rattle.std.proofs.lemmas.List.Folds.{list_all-append, list_all-map}
+use Rattle.std.proofs.lemmas.Bool.{cases_lt, and_parts, lt-ltb, le-ltb, ltb-true, ltb-false}
+use Rattle.market.specs.Files.{filed}
+use Rattle.market.specs.declared.words.Side.TheVariants.{Buy, Sell}
 use Rattle.market.specs.declared.words.Stop.{Stop}
+use Rattle.stops.specs.declared.rows.PricedStop.{PricedStop}
 use Rattle.stops.specs.Stops.{first_by, without_by, above_all}
-use Rattle.stops.specs.Tables.{in_turn, apart, lower_number, by_number, Beside}
+use Rattle.stops.specs.Tables.{stop_of, both, Away, Apart, lower_number, by_number, Beside}
 use Rattle.stops.specs.Seats.{Leads}
-use Rattle.stops.proofs.Firsts.{untaken}
-
--- tests of lists ------------------------------------------------------------------------------------------------------------
-pub pass_all : {X : Type 0} (p : X → Bool) (P : X → Type 0) → ((x : X) → p x ≡ true → P x) → (xs : List X) → list_all p xs ≡ true → AllByRecursion P xs
-pass_all p P k [] e = tt
-pass_all p P k (x ∷ xs) e = let h = and_parts (p x) (list_all p xs) e in (k x h.0, pass_all p P k xs h.1)
-
-pub all_passes : {X : Type 0} (p : X → Bool) (P : X → Type 0) → ((x : X) → P x → p x ≡ true) → (xs : List X) → AllByRecursion P xs → list_all p xs ≡ true
-all_passes p P k [] h = refl
-all_passes p P k (x ∷ xs) h = and_from (p x) (list_all p xs) (k x h.0) (all_passes p P k xs h.1)
-
-pub order_of : {X : Type 0} (before : X → X → Bool) (xs : List X) → in_turn before xs ≡ true → InOrder before xs
-order_of before [] e = tt
-order_of before (x ∷ xs) e =
-    let h = and_parts (list_all (λ y. not (before y x)) xs) (in_turn before xs) e in
-    (pass_all (λ y. not (before y x)) (λ y. before y x ≡ false) (λ y. not-true (before y x)) xs h.0, order_of before xs h.1)
-
-pub turn_of_lem : {X : Type 0} (before : X → X → Bool) (xs : List X) → InOrder before xs → in_turn before xs ≡ true
-turn_of_lem before [] h = refl
-turn_of_lem before (x ∷ xs) h =
-    and_from (list_all (λ y. not (before y x)) xs) (in_turn before xs) (all_passes (λ y. not (before y x)) (λ y. before y x ≡ false) (λ y. ap not) xs h.0) (turn_of_lem before xs h.1)
-
--- numbers that differ
-abbrev pub Away : Stop → Stop → Type 0
-Away s u = s.number ≡ u.number → ⊥
-
-abbrev pub Apart : List Stop → Type 0
-Apart [] = Unit {0}
-Apart (s ∷ ss) = AllByRecursion (Away s) ss × Apart ss
-
-pub apart_of : (ss : List Stop) → apart ss ≡ true → Apart ss
-apart_of [] e = tt
-apart_of (s ∷ ss) e =
-    let h = and_parts (list_all (λ u. not (eqb s.number u.number)) ss) (apart ss) e in
-    (pass_all (λ u. not (eqb s.number u.number)) (Away s) (λ u q. eqb-false s.number u.number (not-true (eqb s.number u.number) q)) ss h.0, apart_of ss h.1)
-
-pub apart_test : (ss : List Stop) → Apart ss → apart ss ≡ true
-apart_test [] h = refl
-apart_test (s ∷ ss) h =
-    and_from (list_all (λ u. not (eqb s.number u.number)) ss) (apart ss) (all_passes (λ u. not (eqb s.number u.number)) (Away s) (λ u q. ap not (ne_eqb s.number u.number q)) ss h.0) (apart_test ss h.1)
+use Rattle.stops.proofs.Firsts.{none_first, untaken}
 
 -- one more in the middle ----------------------------------------------------------------------------------------------------
 all_out : (P : Stop → Type 0) (xs ys : List Stop) (s : Stop) → AllByRecursion P (xs ++ s ∷ ys) → P s × AllByRecursion P (xs ++ ys)
@@ -144,10 +108,6 @@ taken_out t s (u ∷ us) e h = go (lower_number s u) refl (t u) refl (taken_out 
       ap (λ (b : Bool). cond b (filed lower_number s us) (u ∷ without_by t (filed lower_number s us))) j ∙ ap (λ (z : List Stop). u ∷ z) ih.1,
     )
 
-none_first : (t : Stop → Bool) (ss : List Stop) → AllByRecursion (λ u. t u ≡ false) ss → first_by t ss ≡ None
-none_first t [] h = refl
-none_first t (u ∷ us) h = ap (λ (b : Bool). cond b (Some u) (first_by t us)) h.0 ∙ none_first t us h.1
-
 -- lists with one stop more --------------------------------------------------------------------------------------------------
 pub beside_left : {s : Stop} {ms ls : List Stop} (zs : List Stop) → Beside s ms ls → Beside s (ms ++ zs) (ls ++ zs)
 beside_left {s} zs b =
@@ -175,15 +135,6 @@ beside_inserted f xs k x =
       more_is = map-append f (take k xs) (x ∷ drop k xs);
       less_is = ap (map f) (sym (take-append-drop k xs)) ∙ map-append f (take k xs) (drop k xs);
     }
-
-pub beside_removed : {X : Type 0} (f : X → Stop) (xs : List X) (i : ℕ) (x : X) → Some x ≡ slice_get xs i → Beside (f x) (map f xs) (map f (remove xs i))
-beside_removed f [] i x e = absurd (let z : ◌≡◌ {A = ℕ} 0 1 = cc in omega arith)
-beside_removed f (y ∷ ys) zero x e =
-    let q : x ≡ y = cc in
-    record { front = []; back = map f ys; more_is = ap (λ z. f z ∷ map f ys) (sym q); less_is = refl }
-beside_removed f (y ∷ ys) (suc i) x e =
-    let b = beside_removed f ys i x e in
-    record { front = f y ∷ b.front; back = b.back; more_is = ap (λ (l : List Stop). f y ∷ l) b.more_is; less_is = ap (λ (l : List Stop). f y ∷ l) b.less_is }
 
 module _ {s : Stop} {ms ls : List Stop} (b : Beside s ms ls) where
   pub beside_all : (P : Stop → Type 0) → AllByRecursion P ms → P s × AllByRecursion P ls
@@ -229,7 +180,7 @@ led t (Some s) ms ls a h b =
     both_all (u ∷ us) p q = ((λ y. let l = q.0 y in let ne = p.0 in omega arith), both_all us p.1 q.1)
 
 -- numbers above all ---------------------------------------------------------------------------------------------------------
-pub above_all_lem : (n : ℕ) (ss : List Stop) → above_all n ss ≡ true → AllByRecursion (λ u. u.number < n) ss
+above_all_lem : (n : ℕ) (ss : List Stop) → above_all n ss ≡ true → AllByRecursion (λ u. u.number < n) ss
 above_all_lem n [] e = tt
 above_all_lem n (u ∷ us) e = let h = and_parts (ltb u.number n) (above_all n us) e in (ltb-true u.number n h.0, above_all_lem n us h.1)
 
@@ -246,14 +197,18 @@ above_filed n s (u ∷ us) = go (lower_number s u) (above_filed n s us)
     go true ih = refl
     go false ih = ap (λ (b : Bool). ltb u.number n && b) ih ∙ turned (ltb u.number n) (ltb s.number n) (above_all n us)
 
-pub above_by_number : (n : ℕ) (ss : List Stop) → above_all n (by_number ss) ≡ above_all n ss
+above_by_number : (n : ℕ) (ss : List Stop) → above_all n (by_number ss) ≡ above_all n ss
 above_by_number n [] = refl
 above_by_number n (s ∷ ss) = above_filed n s (by_number ss) ∙ ap (λ (b : Bool). ltb s.number n && b) (above_by_number n ss)
 
-pub above_append : (n : ℕ) (xs ys : List Stop) → above_all n (xs ++ ys) ≡ (above_all n xs && above_all n ys)
-above_append n [] ys = refl
-above_append n (x ∷ xs) ys = go (ltb x.number n) (above_append n xs ys)
-  where
-    go : (b : Bool) → above_all n (xs ++ ys) ≡ (above_all n xs && above_all n ys) → (b && above_all n (xs ++ ys)) ≡ ((b && above_all n xs) && above_all n ys)
-    go true ih = ih
-    go false ih = refl
+-- above those by number, above those in any order
+pub below_held : (n : ℕ) (ss : List Stop) → above_all n (by_number ss) ≡ true → AllByRecursion (λ u. u.number < n) ss
+below_held n ss e = above_all_lem n ss (sym (above_by_number n ss) ∙ e)
+
+-- by the rows of both tables
+pub above_rows : {A B : Type 0} (n : ℕ) (bs : List (PricedStop A)) (ss : List (PricedStop B)) → above_all n (by_number (both bs ss)) ≡ (list_all (λ r. ltb r.number n) bs && list_all (λ r. ltb r.number n) ss)
+above_rows n bs ss =
+    let below : Stop → Bool = λ s. ltb s.number n in
+    above_by_number n (both bs ss) ∙ list_all-append below (map (stop_of Buy) bs) (map (stop_of Sell) ss)
+    ∙ ap (λ b. b && list_all below (map (stop_of Sell) ss)) (list_all-map below (stop_of Buy) bs)
+    ∙ ap (λ b. list_all (λ r. ltb r.number n) bs && b) (list_all-map below (stop_of Sell) ss)

@@ -1,53 +1,83 @@
 -- What filing a row and taking one out make of a table's stops.
-use Rattle.std.proofs.Common.{◌≡◌, ℕ, zero, suc, Bool, List, [], ◌∷◌, map, Some, None, sym, refl, ap, ◌∙◌, subst, arith}
+use Rattle.std.proofs.Common.{◌≡◌, ℕ, zero, suc, ◌≤◌, length, length-append, length-take, length-drop, Bool, true, false, List, [], ◌∷◌, ◌++◌, map, take, drop, Some, None, Option, Ok, Err, Result, sym, refl, ap, ◌∙◌, subst, arith, MatchOption}
+use Rattle.std.specs.Option.{OnSome, IfNone}
+use Rattle.std.specs.Result.{OnOk, is_ok}
 use Rattle.std.specs.List.{remove, slice_get}
-use Rattle.market.specs.Files.{filed, ahead}
+use Rattle.std.proofs.ByRecursion.{All-append, All-take, All-drop}
+use Rattle.market.specs.Files.{filed, ahead, InOrder}
 use Rattle.market.proofs.Filing.{filed_is}
 use Rattle.market.specs.declared.words.Stop.{Stop}
 use Rattle.market.specs.declared.words.Side.{Side}
-use Rattle.market.specs.declared.words.Side.TheVariants.{Buy, Sell}
-use Rattle.stops.specs.declared.ranks.BuyStop.{BuyStop}
-use Rattle.stops.specs.declared.ranks.SellStop.{SellStop}
-use Rattle.stops.specs.declared.tables.PriceFile.{PriceFile}
-use Rattle.stops.specs.Tables.{buy_of, sell_of, low_first, high_first, both, Beside, as_buy, as_sell}
-use Rattle.stops.specs.Priced.{buys_of, sells_of, held_by}
-use Rattle.stops.proofs.Merged.{beside_inserted, beside_removed, beside_left, beside_right}
+use Rattle.stops.specs.declared.rows.PricedStop.{PricedStop}
+use Rattle.stops.specs.Tables.{stop_of, ranks, Apart, Beside}
+use Rattle.stops.proofs.Merged.{beside_inserted, beside_left, beside_right, beside_out}
+
+-- a stop was taken out of the longer list, or none was
+abbrev pub Pulled : Option Stop → List Stop → List Stop → Type 0
+Pulled o ms ls = MatchOption o (ls ≡ ms) (λ s. Beside s ms ls)
+
+-- one table of two
+module _ (zs : List Stop) where
+  pub pulled_left : (o : Option Stop) (ms ls : List Stop) → Pulled o ms ls → Pulled o (ms ++ zs) (ls ++ zs)
+  pulled_left None ms ls h = ap (λ (l : List Stop). l ++ zs) h
+  pulled_left (Some s) ms ls h = beside_left zs h
+
+  pub pulled_right : (o : Option Stop) (ms ls : List Stop) → Pulled o ms ls → Pulled o (zs ++ ms) (zs ++ ls)
+  pulled_right None ms ls h = ap (λ (l : List Stop). zs ++ l) h
+  pulled_right (Some s) ms ls h = beside_right zs h
+
+pub pulled_apart : (o : Option Stop) (ms ls : List Stop) → Pulled o ms ls → Apart ms → Apart ls
+pulled_apart None ms ls h k = subst Apart (sym h) k
+pulled_apart (Some s) ms ls h k = (beside_out h k).1
 
 module _ {X : Type 0} (f : X → Stop) where
-  pub nth_map_some : (xs : List X) (i : ℕ) (x : X) → Some x ≡ slice_get xs i → Some (f x) ≡ slice_get (map f xs) i
-  nth_map_some [] i x e = absurd (let z : ◌≡◌ {A = ℕ} 0 1 = cc in omega arith)
-  nth_map_some (y ∷ ys) zero x e = let q : x ≡ y = cc in ap (λ (z : X). Some (f z)) q
-  nth_map_some (y ∷ ys) (suc i) x e = nth_map_some ys i x e
-
-  pub nth_map_none : (xs : List X) (i : ℕ) → None ≡ slice_get xs i → None ≡ slice_get (map f xs) i
-  nth_map_none [] i e = refl
-  nth_map_none (y ∷ ys) zero e = absurd (let z : ◌≡◌ {A = ℕ} 0 1 = cc in omega arith)
-  nth_map_none (y ∷ ys) (suc i) e = nth_map_none ys i e
-
   pub filed_beside : (before : X → X → Bool) (xs ys : List X) (x : X) → ys ≡ filed before x xs → Beside (f x) (map f ys) (map f xs)
   filed_beside before xs ys x e =
       subst (λ (zs : List X). Beside (f x) (map f zs) (map f xs)) (sym (e ∙ filed_is before x xs)) (beside_inserted f xs (ahead before x xs) x)
 
-  pub pulled_beside : (xs ys : List X) (i : ℕ) (x : X) → slice_get xs i ≡ Some x → ys ≡ remove xs i → Beside (f x) (map f xs) (map f ys)
-  pulled_beside xs ys i x was e =
-      subst (λ (zs : List X). Beside (f x) (map f xs) (map f zs)) (sym e) (beside_removed f xs i x (sym was))
+  -- the stop at a place, and the table without it
+  pulled_beside : (xs : List X) (i : ℕ) (o : Option Stop) → o ≡ slice_get (map f xs) i → Pulled o (map f xs) (map f (remove xs i))
+  pulled_beside [] zero o e = rw e refl
+  pulled_beside [] (suc i) o e = rw e refl
+  pulled_beside (x ∷ xs) zero o e = rw e (record { front = []; back = map f xs; more_is = refl; less_is = refl })
+  pulled_beside (x ∷ xs) (suc i) o e = behind o (pulled_beside xs i o e)
+    where
+      behind : (p : Option Stop) → Pulled p (map f xs) (map f (remove xs i)) → Pulled p (f x ∷ map f xs) (f x ∷ map f (remove xs i))
+      behind None h = ap (λ (l : List Stop). f x ∷ l) h
+      behind (Some s) h = record { front = f x ∷ h.front; back = h.back; more_is = ap (λ (l : List Stop). f x ∷ l) h.more_is; less_is = ap (λ (l : List Stop). f x ∷ l) h.less_is }
 
-pub as_buy_lem : (s : Stop) → s.side ≡ Buy → as_buy s ≡ s
-as_buy_lem s e = ap (λ (d : Side). let t : Stop = record { number = s.number; side = d; price = s.price; shares = s.shares } in t) (sym e)
+removed_in_order : {X : Type 0} (before : X → X → Bool) (xs : List X) (i : ℕ) → InOrder before xs → InOrder before (remove xs i)
+removed_in_order before [] zero h = tt
+removed_in_order before [] (suc i) h = tt
+removed_in_order before (x ∷ xs) zero h = h.1
+removed_in_order before (x ∷ xs) (suc i) h =
+    (All-append (λ y. before y x ≡ false) (take i xs) (drop (suc i) xs) (All-take (λ y. before y x ≡ false) i xs h.0) (All-drop (λ y. before y x ≡ false) (suc i) xs h.0), removed_in_order before xs i h.1)
 
-pub as_sell_lem : (s : Stop) → s.side ≡ Sell → as_sell s ≡ s
-as_sell_lem s e = ap (λ (d : Side). let t : Stop = record { number = s.number; side = d; price = s.price; shares = s.shares } in t) (sym e)
+length_removed : {X : Type 0} (xs : List X) (i : ℕ) → length (remove xs i) ≤ length xs
+length_removed xs i = simp length-append (omega (arith, length-take i xs, length-drop (suc i) xs))
 
--- one stop more or less in the file
-module _ (f : PriceFile) where
-  pub buy_filed : (ys : List BuyStop) (x : BuyStop) → ys ≡ filed low_first x (buys_of f) → Beside (buy_of x) (both ys (sells_of f)) (held_by f)
-  buy_filed ys x e = beside_left (map sell_of (sells_of f)) (filed_beside buy_of low_first (buys_of f) ys x e)
+remove_past : {X : Type 0} (xs : List X) (i : ℕ) → None ≡ slice_get xs i → remove xs i ≡ xs
+remove_past [] zero e = refl
+remove_past [] (suc i) e = refl
+remove_past (x ∷ xs) zero e = absurd (let z : ◌≡◌ {A = ℕ} 0 1 = cc in omega arith)
+remove_past {X} (x ∷ xs) (suc i) e = ap (λ (l : List X). x ∷ l) (remove_past xs i e)
 
-  pub sell_filed : (ys : List SellStop) (x : SellStop) → ys ≡ filed high_first x (sells_of f) → Beside (sell_of x) (both (buys_of f) ys) (held_by f)
-  sell_filed ys x e = beside_right (map buy_of (buys_of f)) (filed_beside sell_of high_first (sells_of f) ys x e)
+-- what `pop_at` leaves
+popped : {X V : Type 0} (items : V → List X) (old new : V) (i : ℕ) (o : Option X) → o ≡ slice_get (items old) i → OnSome o (items new ≡ remove (items old) i) → IfNone o (new ≡ old) → items new ≡ remove (items old) i
+popped items old new i None was h k = ap items k ∙ sym (remove_past (items old) i was)
+popped items old new i (Some x) was h k = h
 
-  pub buy_pulled : (ys : List BuyStop) (i : ℕ) (x : BuyStop) → slice_get (buys_of f) i ≡ Some x → ys ≡ remove (buys_of f) i → Beside (buy_of x) (held_by f) (both ys (sells_of f))
-  buy_pulled ys i x was e = beside_left (map sell_of (sells_of f)) (pulled_beside buy_of (buys_of f) ys i x was e)
+-- and what that makes of a table
+pub record PulledRow {S : Type 0} (c : Side) (xs ys : List (PricedStop S)) (i : ℕ) : Type 0 where
+  pub left : (o : Option Stop) → o ≡ slice_get (map (stop_of c) xs) i → Pulled o (map (stop_of c) xs) (map (stop_of c) ys)
+  pub ordered : InOrder (ranks c) xs → InOrder (ranks c) ys
+  pub fewer : length ys ≤ length xs
 
-  pub sell_pulled : (ys : List SellStop) (i : ℕ) (x : SellStop) → slice_get (sells_of f) i ≡ Some x → ys ≡ remove (sells_of f) i → Beside (sell_of x) (held_by f) (both (buys_of f) ys)
-  sell_pulled ys i x was e = beside_right (map buy_of (buys_of f)) (pulled_beside sell_of (sells_of f) ys i x was e)
+pub pulled_row : {S V : Type 0} (c : Side) (items : V → List (PricedStop S)) (old new : V) (i : ℕ) (o : Option (PricedStop S)) → o ≡ slice_get (items old) i → OnSome o (items new ≡ remove (items old) i) → IfNone o (new ≡ old) → PulledRow c (items old) (items new) i
+pulled_row {S} c items old new i o was h k =
+    subst (λ (zs : List (PricedStop S)). PulledRow c (items old) zs i) (sym (popped items old new i o was h k)) (record { left = λ r e. pulled_beside (stop_of c) (items old) i r e; ordered = removed_in_order (ranks c) (items old) i; fewer = length_removed (items old) i })
+
+-- what holds if there was room
+pub row_filed : {T E P : Type 0} (r : Result T E) → is_ok r ≡ true → OnOk r P → P
+row_filed (Ok x) e h = h
+row_filed (Err x) e h = absurd (let z : ◌≡◌ {A = Bool} false true = cc in let y : ◌≡◌ {A = ℕ} 0 1 = cc in omega arith)

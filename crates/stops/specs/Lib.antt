@@ -1,7 +1,6 @@
 pub mod Stops
 pub mod Laws
 pub mod Rising
-pub mod Seeking
 pub mod Slots
 pub mod Tables
 pub mod Ranking

@@ -1,35 +1,24 @@
 -- Where a stop stands in the two tables.
-use Rattle.std.specs.Prelude.{◌≡◌, ℕ, ◌≤◌, Bool, true, false, cond, List, [], map, take, Some, None, Option, nat_lt}
+use Rattle.std.specs.Prelude.{◌≡◌, ℕ, ◌≤◌, Bool, true, false, cond, List, map, Some, None, Option, nat_lt}
 use Rattle.std.specs.List.{prefix_len, AllByRecursion, slice_get}
 use Rattle.market.specs.declared.words.Stop.{Stop}
-use Rattle.stops.specs.declared.ranks.BuyStop.{BuyStop}
-use Rattle.stops.specs.declared.ranks.SellStop.{SellStop}
-use Rattle.stops.specs.declared.rows.Found.{Found}
-use Rattle.stops.specs.declared.rows.Sought.TheVariants.{Asleep}
+use Rattle.market.specs.declared.words.Side.{Side}
+use Rattle.market.specs.declared.words.Side.TheVariants.{Buy, Sell}
+use Rattle.stops.specs.declared.rows.PricedStop.{PricedStop}
+use Rattle.stops.specs.declared.seats.Found.{Found}
 use Rattle.stops.specs.declared.seats.Seat.{Seat}
 use Rattle.stops.specs.declared.seats.Seat.TheVariants.{Buys, Sells}
-use Rattle.stops.specs.Seeking.{misses}
-use Rattle.stops.specs.Tables.{buy_of, sell_of}
+use Rattle.stops.specs.Stops.{elects}
+use Rattle.stops.specs.Tables.{stop_of}
 
--- the rows ahead of the first that the price does not elect
-abbrev pub elected : {X : Type 0} → ℕ → (X → Stop) → List X → List X
-elected p f xs = take (prefix_len (λ u. misses (Asleep p) (f u)) xs) xs
+-- how many rows stand ahead of the first that the price does not elect
+abbrev pub elected_len : {S : Type 0} → Side → ℕ → List (PricedStop S) → ℕ
+elected_len c p rows = prefix_len (λ row. elects p (stop_of c row)) rows
 
--- the place and the number of a stop whose number none is below
-pub record Least (ss : List Stop) (i n : ℕ) : Type 0 where
-  pub which : Stop
-  pub there : slice_get ss i ≡ Some which
-  pub called : which.number ≡ n
-  pub least : AllByRecursion (λ u. n ≤ u.number) ss
-
-abbrev pub LeastRow : List Stop → Option Found → Type 0
-LeastRow ss None = ss ≡ []
-LeastRow ss (Some r) = Least ss r.place r.number
-
-abbrev pub seated : List BuyStop → List SellStop → Option Seat → Option Stop
+abbrev pub seated : {A B : Type 0} → List (PricedStop A) → List (PricedStop B) → Option Seat → Option Stop
 seated bs ss None = None
-seated bs ss (Some (Buys i)) = slice_get (map buy_of bs) i
-seated bs ss (Some (Sells j)) = slice_get (map sell_of ss) j
+seated bs ss (Some (Buys i)) = slice_get (map (stop_of Buy) bs) i
+seated bs ss (Some (Sells j)) = slice_get (map (stop_of Sell) ss) j
 
 -- of one find in each table, the one with the lower number
 abbrev pub lower_seat : Option Found → Option Found → Option Seat

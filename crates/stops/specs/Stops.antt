@@ -1,15 +1,15 @@
 -- What a stop file means: a list of stops, and what each operation makes of it.
-use Rattle.std.specs.Prelude.{ℕ, zero, suc, Bool, true, cond, ◌&&◌, List, [], ◌∷◌, ◌++◌, length, Some, None, Ok, Err, Option, Result, ◌==◌, nat_le, nat_lt}
+use Rattle.std.specs.Prelude.{ℕ, zero, suc, Bool, cond, List, [], ◌∷◌, ◌++◌, length, Some, None, Ok, Err, Option, Result, ◌==◌, nat_lt}
+use Rattle.std.specs.List.{find, list_all}
 use Rattle.market.specs.declared.words.Stop.{Stop}
 use Rattle.market.specs.declared.words.Side.{Side}
-use Rattle.market.specs.declared.words.Side.TheVariants.{Buy, Sell}
+use Rattle.market.specs.Sides.{as_good}
 use Rattle.stops.specs.declared.stop_file.NotAdded.{NotAdded}
 use Rattle.stops.specs.declared.stop_file.NotAdded.TheVariants.{NotAbove, Full}
 
 -- a trade at p reaches a buy stop priced at p or lower, and a sell stop priced at p or higher
 abbrev pub reaches : Side → ℕ → ℕ → Bool
-reaches Buy p q = nat_le q p
-reaches Sell p q = nat_le p q
+reaches s p q = as_good s p q
 
 abbrev pub elects : ℕ → Stop → Bool
 elects p s = reaches s.side p s.price
@@ -19,8 +19,7 @@ numbered n s = s.number == n
 
 -- the first stop that passes a test, and the list without it
 abbrev pub first_by : (Stop → Bool) → List Stop → Option Stop
-first_by t [] = None
-first_by t (s ∷ ss) = cond (t s) (Some s) (first_by t ss)
+first_by t ss = find t ss
 
 abbrev pub without_by : (Stop → Bool) → List Stop → List Stop
 without_by t [] = []
@@ -37,8 +36,7 @@ shares_in (Some s) = Some s.shares
 shares_in None = None
 
 abbrev pub above_all : ℕ → List Stop → Bool
-above_all n [] = true
-above_all n (s ∷ ss) = nat_lt s.number n && above_all n ss
+above_all n ss = list_all (λ s. nat_lt s.number n) ss
 
 -- a stop is added behind the others, unless its number is not above theirs or the room is used up
 abbrev pub adding : ℕ → Stop → List Stop → Result (Unit {0}) NotAdded

@@ -1,17 +1,22 @@
 // A stop file that keeps its stops in order of arrival, in slots that the caller lends.
 ghost use Rattle.std.specs.Prelude.{◌≡◌, ◌<◌, [], ◌∷◌, ◌++◌, length};
-ghost use Rattle.std.specs.List.{prefix_len};
+ghost use Rattle.std.specs.List.{position, remove, slice_get};
 ghost use Rattle.stops.specs.Slots.{filled, filled_fits};
-ghost use Rattle.stops.specs.Stops.{first_by, without_by, above_all};
-ghost use Rattle.stops.specs.Laws.{Ascends, lowest_by};
+ghost use Rattle.stops.specs.Stops.{elects, numbered, above_all};
 ghost use Rattle.stops.specs.Rising.{ascends_reached};
-ghost use Rattle.stops.specs.Seeking.{meets, misses};
 
-use crate::rows::{Sought, first_row, is_above_all};
 use crate::stop_file::{NotAdded, StopFile};
 use market::file::remove_at;
 use market::words::Stop;
 
+// Whether a price elects a stop: a buy priced at it or lower, a sell priced at it or higher.
+fn is_elected(stop: &Stop, price: u32) -> bool
+    ensures { result ≡ elects price stop.now }
+{
+    stop.side.as_good(price, stop.price)
+}
+
+// The caller lends the slots, since memory is fixed: so the count stands beside them, and no ArrayVec owns both.
 // There is no ghost field, so that a day can hold the file by value: a `held` past the slots counts as all of them.
 #[derive(Drop)]
 pub struct ArrivalFile<'a> {
@@ -27,34 +32,42 @@ impl<'a> ArrivalFile<'a> {
         ArrivalFile { slots, held: 0 }
     }
 
-    // The place of the first stop that is looked for, or the count.
-    fn place_of(&self, sought: Sought) -> usize
-        ensures { result ≡ prefix_len (misses sought) (filled self.now.held self.now.slots.now) }
+    // The stops, in order of arrival.
+    fn stops(&self) -> &[Stop]
+        ensures { result.now ≡ filled self.now.held self.now.slots.now }
     {
-        let n = self.count();
-        first_row(&self.slots[0..n], sought)
+        &self.slots[..self.count()]
     }
 
     // Whether a number is above every number held.
     fn is_above(&self, number: u32) -> bool
         ensures { result ≡ above_all number (filled self.now.held self.now.slots.now) }
     {
-        let n = self.count();
-        is_above_all(&self.slots[0..n], number)
+        self.stops().iter().all(|stop| stop.number < number)
     }
 
-    // Takes the first stop out that is looked for.
-    fn pull(&mut self, sought: Sought) -> Option<Stop>
-        ensures value { result ≡ first_by (meets sought) (filled self.old.held self.old.slots.now) }
-        ensures lowest { Ascends (filled self.old.held self.old.slots.now) → result ≡ lowest_by (meets sought) (filled self.old.held self.old.slots.now) }
-        ensures listed { filled self.new.held self.new.slots.now ≡ without_by (meets sought) (filled self.old.held self.old.slots.now) }
+    // The place of a number.
+    fn place_of(&self, number: u32) -> Option<usize>
+        ensures { result ≡ position (numbered number) (filled self.now.held self.now.slots.now) }
+    {
+        self.stops().iter().position(|stop| stop.number == number)
+    }
+
+    // The place of the first stop that the price elects.
+    fn place_at(&self, price: u32) -> Option<usize>
+        ensures { result ≡ position (elects price) (filled self.now.held self.now.slots.now) }
+    {
+        self.stops().iter().position(|stop| is_elected(stop, price))
+    }
+
+    // Takes the stop at a place out.
+    fn pull(&mut self, at: usize) -> Option<Stop>
+        ensures value { result ≡ slice_get (filled self.old.held self.old.slots.now) at }
+        ensures listed { filled self.new.held self.new.slots.now ≡ remove (filled self.old.held self.old.slots.now) at }
         ensures keeps { length self.new.slots.now ≡ length self.old.slots.now }
     {
         let n = self.count();
-        let i = self.place_of(sought);
-        let Some(stop) = remove_at(self.slots, n, i) else {
-            return None;
-        };
+        let stop = remove_at(self.slots, n, at)?;
         self.held = n - 1;
         Some(stop)
     }
@@ -96,14 +109,13 @@ impl<'a> StopFile for ArrivalFile<'a> {
     }
 
     fn remove(&mut self, number: u32) -> Option<u32> {
-        match self.pull(Sought::Numbered(number)) {
-            Some(stop) => Some(stop.shares),
-            None => None,
-        }
+        let at = self.place_of(number)?;
+        self.pull(at).map(|stop| stop.shares)
     }
 
     fn take_at(&mut self, price: u32) -> Option<Stop> {
-        self.pull(Sought::Elected(price))
+        let at = self.place_at(price)?;
+        self.pull(at)
     }
 
     fn count(&self) -> usize {

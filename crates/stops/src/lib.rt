@@ -2,9 +2,9 @@
 
 pub mod arrival;
 pub mod price;
-mod ranks;
 mod rows;
 mod seats;
 pub mod stop_file;
+mod table;
 pub mod tables;
 pub mod taking;

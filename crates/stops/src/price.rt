@@ -1,7 +1,6 @@
-// A stop file that keeps its stops by side and price, in two tables of its own.
-ghost use Rattle.std.specs.Prelude.{◌≡◌, ◌<◌, ◌≤◌, true, [], ◌∷◌, ◌++◌, length, Some, MatchOption};
-ghost use Rattle.stops.specs.declared.seats.Seat.TheVariants.{Buys, Sells};
-ghost use Rattle.market.specs.declared.words.Side.TheVariants.{Buy, Sell};
+// A stop file that keeps its stops by side and price, in two tables of its own, which differ in type: each match on a side or a seat names
+// both.
+ghost use Rattle.std.specs.Prelude.{◌≡◌, ◌<◌, true, [], ◌∷◌, ◌++◌, length, MatchOption};
 ghost use Rattle.stops.specs.Stops.{elects, numbered, above_all, first_by, without_by};
 ghost use Rattle.stops.specs.Laws.{Ascends, lowest_by};
 ghost use Rattle.stops.specs.Rising.{ascends_reached};
@@ -9,97 +8,45 @@ ghost use Rattle.stops.specs.Tables.{by_number, Beside};
 ghost use Rattle.stops.specs.Seats.{seated, Leads};
 ghost use Rattle.stops.specs.Priced.{buys_of, sells_of, held_by, held_fits};
 
-use crate::ranks::{BuyStop, SellStop};
-use crate::rows::{Sought, StopRow, first_row, is_above_all, lowest_elected};
 use crate::seats::{Seat, lower_seat};
 use crate::stop_file::{NotAdded, StopFile};
+use crate::table::Table;
 use crate::tables::{CAPACITY, PriceFile};
-use market::file::{insert, remove_at};
 use market::words::{Side, Stop};
 
 impl PriceFile {
     // An empty file.
     pub fn new() -> PriceFile
-        ensures { (result.buying ≡ 0) × (result.selling ≡ 0) }
+        ensures { (buys_of result ≡ []) × (sells_of result ≡ []) }
     {
         PriceFile {
-            buys: [BuyStop {
-                number: 0,
-                price: 0,
-                shares: 0,
-            }; 512],
-            buying: 0,
-            sells: [SellStop {
-                number: 0,
-                price: 0,
-                shares: 0,
-            }; 512],
-            selling: 0,
+            buys: Table::new(),
+            sells: Table::new(),
         }
-    }
-
-    // How many rows of both tables are in use.
-    fn used(&self) -> usize
-        ensures count { result ≡ length (by_number (held_by self.now)) }
-        ensures within { result ≤ 512 }
-    {
-        self.buying + self.selling
     }
 
     // Whether a number is above every number held.
     fn is_above(&self, number: u32) -> bool
         ensures { result ≡ above_all number (by_number (held_by self.now)) }
     {
-        is_above_all(&self.buys[0..self.buying], number)
-            && is_above_all(&self.sells[0..self.selling], number)
+        self.buys.is_above_all(number) && self.sells.is_above_all(number)
     }
 
     // Where the stop of a number stands.
     fn seat_of(&self, number: u32) -> Option<Seat>
         ensures { Leads (numbered number) (seated (buys_of self.now) (sells_of self.now) result) (held_by self.now) }
     {
-        let i = first_row(&self.buys[0..self.buying], Sought::Numbered(number));
-        if i < self.buying {
-            return Some(Seat::Buys(i));
-        }
-        let j = first_row(&self.sells[0..self.selling], Sought::Numbered(number));
-        if j < self.selling {
-            return Some(Seat::Sells(j));
-        }
-        None
+        let buy = self.buys.place_of(number).map(Seat::Buys);
+        buy.or_else(|| self.sells.place_of(number).map(Seat::Sells))
     }
 
     // Where the lowest-numbered stop stands that a price elects: those stand in front, so nothing behind them is looked at.
     fn seat_at(&self, price: u32) -> Option<Seat>
         ensures { Leads (elects price) (seated (buys_of self.now) (sells_of self.now) result) (held_by self.now) }
     {
-        let buy = lowest_elected(&self.buys[0..self.buying], price);
-        let sell = lowest_elected(&self.sells[0..self.selling], price);
+        let buy = self.buys.lowest_elected(price);
+        let sell = self.sells.lowest_elected(price);
         lower_seat(buy, sell)
-    }
-
-    // Takes the row at a place out of the buys.
-    fn pull_buy(&mut self, i: usize) -> Option<Stop>
-        ensures value { result ≡ seated (buys_of self.old) (sells_of self.old) (Some (Buys i)) }
-        ensures left { MatchOption result (held_by self.new ≡ held_by self.old) (λ s. Beside s (held_by self.old) (held_by self.new)) }
-    {
-        let Some(row) = remove_at(&mut self.buys, self.buying, i) else {
-            return None;
-        };
-        self.buying -= 1;
-        Some(row.stop())
-    }
-
-    // Takes the row at a place out of the sells.
-    fn pull_sell(&mut self, i: usize) -> Option<Stop>
-        ensures value { result ≡ seated (buys_of self.old) (sells_of self.old) (Some (Sells i)) }
-        ensures left { MatchOption result (held_by self.new ≡ held_by self.old) (λ s. Beside s (held_by self.old) (held_by self.new)) }
-    {
-        let Some(row) = remove_at(&mut self.sells, self.selling, i) else {
-            return None;
-        };
-        self.selling -= 1;
-        Some(row.stop())
     }
 
     // Takes the stop at a seat out.
@@ -107,10 +54,9 @@ impl PriceFile {
         ensures value { result ≡ seated (buys_of self.old) (sells_of self.old) seat }
         ensures left { MatchOption result (held_by self.new ≡ held_by self.old) (λ s. Beside s (held_by self.old) (held_by self.new)) }
     {
-        match seat {
-            None => None,
-            Some(Seat::Buys(i)) => self.pull_buy(i),
-            Some(Seat::Sells(i)) => self.pull_sell(i),
+        match seat? {
+            Seat::Buys(i) => self.buys.pull(i),
+            Seat::Sells(i) => self.sells.pull(i),
         }
     }
 
@@ -133,40 +79,17 @@ impl PriceFile {
         self.pull(seat)
     }
 
-    // Files a buy stop whose number is above all, where there is room.
-    fn file_buy(&mut self, stop: Stop)
-        requires side { stop.side ≡ Buy }
+    // Files a stop whose number is above all, where there is room.
+    #[tactic(auto, using(crate::specs::Priced::length_held))]
+    fn file(&mut self, stop: Stop)
         requires above { above_all stop.number (by_number (held_by self.old)) ≡ true }
         requires room { length (by_number (held_by self.old)) < 512 }
         ensures { by_number (held_by self.new) ≡ by_number (held_by self.old) ++ stop ∷ [] }
     {
-        let row = BuyStop {
-            number: stop.number,
-            price: stop.price,
-            shares: stop.shares,
-        };
-        let Ok(_) = insert(&mut self.buys, self.buying, row) else {
-            return;
-        };
-        self.buying += 1;
-    }
-
-    // Files a sell stop whose number is above all, where there is room.
-    fn file_sell(&mut self, stop: Stop)
-        requires side { stop.side ≡ Sell }
-        requires above { above_all stop.number (by_number (held_by self.old)) ≡ true }
-        requires room { length (by_number (held_by self.old)) < 512 }
-        ensures { by_number (held_by self.new) ≡ by_number (held_by self.old) ++ stop ∷ [] }
-    {
-        let row = SellStop {
-            number: stop.number,
-            price: stop.price,
-            shares: stop.shares,
-        };
-        let Ok(_) = insert(&mut self.sells, self.selling, row) else {
-            return;
-        };
-        self.selling += 1;
+        match stop.side {
+            Side::Buy => self.buys.file(stop),
+            Side::Sell => self.sells.file(stop),
+        }
     }
 }
 
@@ -180,37 +103,33 @@ impl StopFile for PriceFile {
     ghost rises = { λ _. ascends_reached 512 };
 
     fn clear(&mut self) {
-        self.buying = 0;
-        self.selling = 0;
+        self.buys.clear();
+        self.sells.clear();
     }
 
+    #[tactic(auto, using(crate::specs::Priced::length_held))]
     fn add(&mut self, stop: Stop) -> Result<(), NotAdded> {
         if !self.is_above(stop.number) {
             return Err(NotAdded::NotAbove);
         }
-        if self.used() == CAPACITY {
+        if self.count() == CAPACITY {
             return Err(NotAdded::Full);
         }
-        match stop.side {
-            Side::Buy => self.file_buy(stop),
-            Side::Sell => self.file_sell(stop),
-        }
+        self.file(stop);
         Ok(())
     }
 
     fn remove(&mut self, number: u32) -> Option<u32> {
-        match self.pull_numbered(number) {
-            Some(stop) => Some(stop.shares),
-            None => None,
-        }
+        self.pull_numbered(number).map(|stop| stop.shares)
     }
 
     fn take_at(&mut self, price: u32) -> Option<Stop> {
         self.pull_elected(price)
     }
 
+    #[tactic(auto, using(crate::specs::Priced::length_held))]
     fn count(&self) -> usize {
-        self.used()
+        self.buys.len() + self.sells.len()
     }
 
     fn capacity(&self) -> usize {

@@ -2,8 +2,6 @@
 ghost use Rattle.std.specs.Prelude.{◌≡◌};
 ghost use Rattle.stops.specs.Seats.{lower_seat};
 
-use crate::rows::Found;
-
 // A place among the buys or among the sells.
 #[derive(Clone, Copy)]
 pub(crate) enum Seat {
@@ -11,20 +9,20 @@ pub(crate) enum Seat {
     Sells(usize),
 }
 
+// A place in one table, with the number of the stop that stands there.
+#[derive(Clone, Copy)]
+pub(crate) struct Found {
+    pub(crate) place: usize,
+    pub(crate) number: u32,
+}
+
 // Of the lowest of each table, the lower one.
 pub(crate) fn lower_seat(buy: Option<Found>, sell: Option<Found>) -> Option<Seat>
     ensures { result ≡ lower_seat buy sell }
 {
     match (buy, sell) {
-        (None, None) => None,
-        (Some(b), None) => Some(Seat::Buys(b.place)),
-        (None, Some(s)) => Some(Seat::Sells(s.place)),
-        (Some(b), Some(s)) => {
-            if b.number < s.number {
-                Some(Seat::Buys(b.place))
-            } else {
-                Some(Seat::Sells(s.place))
-            }
-        }
+        (Some(b), Some(s)) if s.number <= b.number => Some(Seat::Sells(s.place)),
+        (Some(b), _) => Some(Seat::Buys(b.place)),
+        (None, s) => s.map(|s| Seat::Sells(s.place)),
     }
 }

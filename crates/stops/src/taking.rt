@@ -15,13 +15,11 @@ pub fn take_all_at<F: StopFile>(file: &mut F, price: u32, numbers: &mut [u32]) -
     ensures rising { Ascends (F.stops file.old) → Ascends (filter (elects price) (F.stops file.old)) }
     ensures keeps { F.room file.new ≡ F.room file.old }
 {
-    let mut n = 0;
-    while n < numbers.len() {
+    for (n, slot) in numbers.iter_mut().enumerate() {
         let Some(stop) = file.take_at(price) else {
             return n;
         };
-        numbers[n] = stop.number;
-        n += 1;
+        *slot = stop.number;
     }
-    n
+    numbers.len()
 }

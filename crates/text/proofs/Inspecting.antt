@@ -1,15 +1,19 @@
 -- What was read of a text's first line, and the lines behind it. Assumes nothing.
-use Rattle.std.proofs.Common.{◌≡◌, ℕ, ◌+◌, ◌-◌, ◌<◌, ◌≤◌, Bool, true, false, cond, not, eqb, List, [], ◌∷◌, ◌++◌, length, drop, is_ok, is_err, Ok, Err, Result, sym, refl, ap, ◌∙◌, ⊎_elim, append_assoc, arith}
+use Rattle.std.proofs.Common.{◌≡◌, ℕ, ◌+◌, ◌-◌, ◌<◌, ◌≤◌, true, false, cond, eqb, List, [], ◌∷◌, ◌++◌, length, drop, is_ok, is_err, Ok, Err, Result, sym, refl, ap, ◌∙◌, ⊎_elim, append_assoc, arith}
 use Rattle.std.proofs.lemmas.List.{length-drop, drop_all}
+use Rattle.std.proofs.lemmas.Bool.Decides.{nat_tests}
 use Rattle.std.proofs.lemmas.Bool.{ne_eqb, cases_lt}
 use Rattle.text.specs.declared.refusal.Refusal.TheVariants.{EmptyText}
 use Rattle.text.specs.declared.record.Record.{Record}
 use Rattle.text.specs.declared.field.LineFault.{LineFault}
 use Rattle.text.specs.declared.read.Fault.{Fault}
-use Rattle.text.specs.Cuts.{up_to, line_of, rest_of, next_of}
+use Rattle.text.specs.Cuts.{line_of, rest_of, next_of}
 use Rattle.text.specs.Reading.{fault_at, record_in, read_as, read_of}
 use Rattle.text.specs.Inspection.{on_first, lines_of, shown_as, shown_from, one, good_in, refused_in}
-use Rattle.text.proofs.Marks.{past_is}
+use Rattle.text.proofs.Marks.{place, past_is}
+
+pub some_left : (text : List ℕ) → false ≡ eqb (length text) 0 → 0 < length text
+some_left text e = grind (arith, nat_tests)
 
 module _ (text : List ℕ) (some : 0 < length text) where
   not_empty : read_of text ≡ read_as (record_in (line_of text)) text
@@ -20,13 +24,13 @@ module _ (text : List ℕ) (some : 0 < length text) where
     where
       go : (r : Result Record LineFault) → Ok x ≡ read_as r text → (r ≡ Ok x.0) × (x.1 ≡ rest_of text)
       go (Ok r) found = let same : ◌≡◌ {A = Record × List ℕ} x (r, rest_of text) = cc in (ap (λ (y : Record × List ℕ). Ok y.0) (sym same), ap (λ (y : Record × List ℕ). y.1) same)
-      go (Err f) found = absurd (let z : ◌≡◌ {A = ℕ} 0 1 = cc in omega arith)
+      go (Err f) found = cc
 
   pub read_bad : (f : Fault) → Err f ≡ read_of text → (record_in (line_of text) ≡ Err (fault_at f.cause f.field)) × (f.next ≡ next_of text)
   read_bad f e = go (record_in (line_of text)) (e ∙ not_empty)
     where
       go : (r : Result Record LineFault) → Err f ≡ read_as r text → (r ≡ Err (fault_at f.cause f.field)) × (f.next ≡ next_of text)
-      go (Ok r) found = absurd (let z : ◌≡◌ {A = ℕ} 0 1 = cc in omega arith)
+      go (Ok r) found = cc
       go (Err g) found = let same : f ≡ record { cause = g.cause; field = g.field; next = next_of text } = cc in (ap (λ (y : Fault). Err (fault_at y.cause y.field)) (sym same), ap (λ (y : Fault). y.next) same)
 
 -- the lines of a text: its first line, and those of the rest
@@ -47,11 +51,7 @@ drop_back n xs =
 
 pub next_rest : (text : List ℕ) (next : ℕ) → next ≡ next_of text → drop next text ≡ rest_of text
 next_rest text next e =
-    ap (λ k. drop k text) (e ∙ ap (λ l. length text - length l) (past_is 10 text)) ∙ drop_back (length (up_to 10 text) + 1) text ∙ sym (past_is 10 text)
-
-err_not_ok : {A E : Type 0} (r : Result A E) → is_err r ≡ not (is_ok r)
-err_not_ok (Ok x) = refl
-err_not_ok (Err e) = refl
+    ap (λ k. drop k text) (e ∙ ap (λ l. length text - length l) (sym (past_is 10 text))) ∙ drop_back (place 10 text + 1) text ∙ past_is 10 text
 
 -- one line more
 module _ (text : List ℕ) (some : 0 < length text) (rest : List ℕ) (is : rest ≡ rest_of text) where
@@ -65,9 +65,5 @@ module _ (text : List ℕ) (some : 0 < length text) (rest : List ℕ) (is : rest
   pub good_more : good_in (lines_of text) ≡ one (is_ok (record_in (line_of text))) + good_in (lines_of rest)
   good_more = ap good_in ahead
 
-  pub refused_more : refused_in (lines_of text) ≡ one (not (is_ok (record_in (line_of text)))) + refused_in (lines_of rest)
-  refused_more = ap refused_in ahead ∙ ap (λ b. one b + refused_in (lines_of rest)) (err_not_ok (record_in (line_of text)))
-
-pub one_way : (b : Bool) → one b + one (not b) ≡ 1
-one_way true = refl
-one_way false = refl
+  pub refused_more : refused_in (lines_of text) ≡ one (is_err (record_in (line_of text))) + refused_in (lines_of rest)
+  refused_more = ap refused_in ahead

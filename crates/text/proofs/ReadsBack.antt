@@ -1,22 +1,22 @@
 -- What was written reads back as its record. Assumes nothing.
-use Rattle.std.proofs.Common.{◌≡◌, ℕ, suc, ◌+◌, ◌<◌, ◌≤◌, Bool, true, false, cond, eqb, leb, List, [], ◌∷◌, ◌++◌, length, get_or, drop, Some, Ok, Err, decimal, Result, sym, refl, ap, ◌∙◌, subst, append_assoc, arith}
+use Rattle.std.proofs.Common.{◌≡◌, ℕ, suc, ◌+◌, ◌<◌, ◌≤◌, Bool, true, false, cond, eqb, leb, List, [], ◌∷◌, ◌++◌, length, get_or, map, drop, Some, Ok, Err, decimal, Option, Result, sym, refl, ap, ◌∙◌, subst, append_assoc, arith}
 use Rattle.std.proofs.lemmas.Bool.Decides.{nat_tests}
 use Rattle.std.proofs.lemmas.Bool.{eq-eqb, ne_eqb}
 use Rattle.market.specs.declared.words.Side.{Side}
-use Rattle.market.specs.declared.words.Side.TheVariants.{Buy, Sell}
 use Rattle.market.specs.declared.words.Column.{Column}
-use Rattle.market.specs.declared.words.Column.TheVariants.{Lower, Higher}
 use Rattle.text.specs.declared.refusal.Refusal.{Refusal}
 use Rattle.text.specs.declared.refusal.Refusal.TheVariants.{EmptyText, FieldCount, BufferTooShort}
-use Rattle.text.specs.declared.record.PricedOrder.{PricedOrder}
+use Rattle.market.specs.declared.words.PricedOrder.{PricedOrder}
 use Rattle.text.specs.declared.record.Record.{Record}
 use Rattle.text.specs.declared.record.Record.TheVariants.{Set, Limit, ImmediateOrCancel, Stop, Market, Cancel, FloorTrade, Resume, Open, Close}
 use Rattle.text.specs.declared.field.LineFault.{LineFault}
 use Rattle.text.specs.Cuts.{past, marks, field_at, field_count, line_of, rest_of}
 use Rattle.text.specs.Numbers.{number_in}
-use Rattle.text.specs.Letters.{side_in, column_in, side_letter, column_letter}
-use Rattle.text.specs.Reading.{fault_at, set_from, set_in, priced_from, priced_in, market_from, market_in, pair_from, pair_in, as_record, record_in, read_as, read_of}
-use Rattle.text.specs.Written.{tabbed, priced_fields, bytes_for, fields_for, all_fit, priced_numbers, numbers_of, put_length, put_buffer}
+use Rattle.text.specs.Letters.{kind_letter, side_in, column_in, side_letter, column_letter}
+use Rattle.text.specs.Spelling.{IsSpelling}
+use Rattle.text.specs.Spelled.{kind_spelling, side_spelling, column_spelling}
+use Rattle.text.specs.Reading.{fault_at, set_in, priced_in, market_in, pair_in, as_record, record_in, read_as, read_of}
+use Rattle.text.specs.Written.{tabbed, priced_fields, kind_for, bytes_for, fields_for, all_fit, priced_numbers, numbers_of, put_length, put_buffer}
 use Rattle.text.specs.RoundTrips.{ReadsBack}
 use Rattle.text.proofs.Numerals.{reads_back, decimal_digits}
 use Rattle.text.proofs.Fields.{Free, up_to_free, past_free, digits_free, field_found, tabs_found, lines_free}
@@ -29,52 +29,42 @@ module _ (m : ℕ) (low : m < 48) where
   number_free : (n : ℕ) → n ≤ 9999999 → marks m (decimal n) ≡ 0
   number_free n h = digits_free m (decimal n) low (decimal_digits n (omega arith))
 
+  letter_free : {K : Type 0} {meaning : ℕ → Option K} {letter : K → ℕ} → IsSpelling meaning letter → (k : K) → marks m (letter k ∷ []) ≡ 0
+  letter_free {letter = letter} spelling k = let high = spelling.high k in byte_free m (letter k) (λ e. omega arith)
+
   side_free : (s : Side) → marks m (side_letter s ∷ []) ≡ 0
-  side_free Buy = byte_free m 66 (λ e. omega arith)
-  side_free Sell = byte_free m 83 (λ e. omega arith)
+  side_free = letter_free side_spelling
 
   column_free : (k : Column) → marks m (column_letter k ∷ []) ≡ 0
-  column_free Lower = byte_free m 76 (λ e. omega arith)
-  column_free Higher = byte_free m 72 (λ e. omega arith)
+  column_free = letter_free column_spelling
+
+  numbers_free : (ns : List ℕ) → all_fit ns ≡ true → Free m (map decimal ns)
+  numbers_free [] e = tt
+  numbers_free (n ∷ ns) e =
+      let a : n ≤ 9999999 = grind (arith, nat_tests) in
+      let others : all_fit ns ≡ true = grind (arith, nat_tests) in
+      (number_free n a, numbers_free ns others)
 
   priced_free : (o : PricedOrder) → all_fit (priced_numbers o) ≡ true → Free m (priced_fields o)
-  priced_free o e =
-      let a : o.member ≤ 9999999 = grind (arith, nat_tests) in
-      let b : o.price ≤ 9999999 = grind (arith, nat_tests) in
-      let c : o.shares ≤ 9999999 = grind (arith, nat_tests) in
-      (side_free o.side, (number_free _ a, (number_free _ b, (number_free _ c, tt))))
+  priced_free o e = (side_free o.side, numbers_free (priced_numbers o) e)
 
   pub fields_free : (r : Record) → all_fit (numbers_of r) ≡ true → Free m (fields_for r)
-  fields_free (Set class column last) e =
-      let a : class ≤ 9999999 = grind (arith, nat_tests) in
-      let b : last ≤ 9999999 = grind (arith, nat_tests) in
-      (number_free _ a, (column_free column, (number_free _ b, tt)))
+  fields_free (Set class column last) e = let n = numbers_free (class ∷ last ∷ []) e in (n.0, (column_free column, n.1))
   fields_free (Limit o) e = priced_free o e
   fields_free (ImmediateOrCancel o) e = priced_free o e
   fields_free (Stop o) e = priced_free o e
-  fields_free (Market side member shares) e =
-      let a : member ≤ 9999999 = grind (arith, nat_tests) in
-      let b : shares ≤ 9999999 = grind (arith, nat_tests) in
-      (side_free side, (number_free _ a, (number_free _ b, tt)))
-  fields_free (Cancel member number) e =
-      let a : member ≤ 9999999 = grind (arith, nat_tests) in
-      let b : number ≤ 9999999 = grind (arith, nat_tests) in
-      (number_free _ a, (number_free _ b, tt))
-  fields_free (FloorTrade price shares) e =
-      let a : price ≤ 9999999 = grind (arith, nat_tests) in
-      let b : shares ≤ 9999999 = grind (arith, nat_tests) in
-      (number_free _ a, (number_free _ b, tt))
+  fields_free (Market side member shares) e = (side_free side, numbers_free (member ∷ shares ∷ []) e)
+  fields_free (Cancel member number) e = numbers_free (member ∷ number ∷ []) e
+  fields_free (FloorTrade price shares) e = numbers_free (price ∷ shares ∷ []) e
   fields_free Resume e = tt
   fields_free Open e = tt
   fields_free Close e = tt
 
 side_reads : (s : Side) → side_in (side_letter s ∷ []) ≡ Some s
-side_reads Buy = refl
-side_reads Sell = refl
+side_reads = side_spelling.reads_back
 
 column_reads : (k : Column) → column_in (column_letter k ∷ []) ≡ Some k
-column_reads Lower = refl
-column_reads Higher = refl
+column_reads = column_spelling.reads_back
 
 -- a letter and its fields, behind tabs
 module _ (letter : ℕ) (other : eqb letter 9 ≡ false) where
@@ -97,7 +87,7 @@ module _ (letter : ℕ) (other : eqb letter 9 ≡ false) where
       let p2 : number_in (field_at 2 line) ≡ Some o.member = ap number_in (line_field 1 s more free (omega arith)) ∙ reads_back o.member a in
       let p3 : number_in (field_at 3 line) ≡ Some o.price = ap number_in (line_field 2 s more free (omega arith)) ∙ reads_back o.price b in
       let p4 : number_in (field_at 4 line) ≡ Some o.shares = ap number_in (line_field 3 s more free (omega arith)) ∙ reads_back o.shares c in
-      ap (λ x. priced_from x (number_in (field_at 2 line)) (number_in (field_at 3 line)) (number_in (field_at 4 line))) p1 ∙ ap (λ x. priced_from (Some o.side) x (number_in (field_at 3 line)) (number_in (field_at 4 line))) p2 ∙ ap (λ x. priced_from (Some o.side) (Some o.member) x (number_in (field_at 4 line))) p3 ∙ ap (λ x. priced_from (Some o.side) (Some o.member) (Some o.price) x) p4
+      cc
 
   pair_back : (m n : ℕ) → m ≤ 9999999 → n ≤ 9999999 → pair_in (letter ∷ tabbed (decimal m ∷ decimal n ∷ [])) ≡ Ok (m, n)
   pair_back m n a b =
@@ -105,7 +95,7 @@ module _ (letter : ℕ) (other : eqb letter 9 ≡ false) where
       let line = letter ∷ tabbed (decimal m ∷ decimal n ∷ []) in
       let p1 : number_in (field_at 1 line) ≡ Some m = ap number_in (line_field 0 (decimal m) (decimal n ∷ []) free (omega arith)) ∙ reads_back m a in
       let p2 : number_in (field_at 2 line) ≡ Some n = ap number_in (line_field 1 (decimal m) (decimal n ∷ []) free (omega arith)) ∙ reads_back n b in
-      ap (λ x. pair_from x (number_in (field_at 2 line))) p1 ∙ ap (λ x. pair_from (Some m) x) p2
+      cc
 
 -- a line with the count of fields that its kind asks
 counted : (n k : ℕ) (x : Result Record LineFault) (r : Record) → n ≡ k → x ≡ Ok r → cond (eqb n k) x (Err (fault_at FieldCount 0)) ≡ Ok r
@@ -122,7 +112,7 @@ record_back (Set class column last) e =
     let p2 : column_in (field_at 2 line) ≡ Some column = ap column_in (line_field 71 refl 1 (decimal class) (k ∷ decimal last ∷ []) free (omega arith)) ∙ column_reads column in
     let p3 : number_in (field_at 3 line) ≡ Some last = ap number_in (line_field 71 refl 2 (decimal class) (k ∷ decimal last ∷ []) free (omega arith)) ∙ reads_back last b in
     counted (field_count line) 4 (set_in line) (Set class column last) (line_count 71 refl (fields_for (Set class column last)) free)
-    (ap (λ x. set_from x (column_in (field_at 2 line)) (number_in (field_at 3 line))) p1 ∙ ap (λ x. set_from (Some class) x (number_in (field_at 3 line))) p2 ∙ ap (λ x. set_from (Some class) (Some column) x) p3)
+    (cc)
 record_back (Limit o) e = counted (field_count (bytes_for (Limit o))) 5 _ (Limit o) (line_count 78 refl (priced_fields o) (priced_free 9 (omega arith) o e)) (ap (as_record Limit) (priced_back 78 refl o e))
 record_back (ImmediateOrCancel o) e = counted (field_count (bytes_for (ImmediateOrCancel o))) 5 _ (ImmediateOrCancel o) (line_count 73 refl (priced_fields o) (priced_free 9 (omega arith) o e)) (ap (as_record ImmediateOrCancel) (priced_back 73 refl o e))
 record_back (Stop o) e = counted (field_count (bytes_for (Stop o))) 5 _ (Stop o) (line_count 84 refl (priced_fields o) (priced_free 9 (omega arith) o e)) (ap (as_record Stop) (priced_back 84 refl o e))
@@ -136,7 +126,7 @@ record_back (Market side member shares) e =
     let p2 : number_in (field_at 2 line) ≡ Some member = ap number_in (line_field 77 refl 1 s (decimal member ∷ decimal shares ∷ []) free (omega arith)) ∙ reads_back member a in
     let p3 : number_in (field_at 3 line) ≡ Some shares = ap number_in (line_field 77 refl 2 s (decimal member ∷ decimal shares ∷ []) free (omega arith)) ∙ reads_back shares b in
     counted (field_count line) 4 (market_in line) (Market side member shares) (line_count 77 refl (fields_for (Market side member shares)) free)
-    (ap (λ x. market_from x (number_in (field_at 2 line)) (number_in (field_at 3 line))) p1 ∙ ap (λ x. market_from (Some side) x (number_in (field_at 3 line))) p2 ∙ ap (λ x. market_from (Some side) (Some member) x) p3)
+    (cc)
 record_back (Cancel member number) e =
     let a : member ≤ 9999999 = grind (arith, nat_tests) in
     let b : number ≤ 9999999 = grind (arith, nat_tests) in
@@ -150,21 +140,15 @@ record_back Open e = refl
 record_back Close e = refl
 
 -- no line that is written holds a line's end
-letter_first : (r : Record) → all_fit (numbers_of r) ≡ true → marks 10 (bytes_for r) ≡ marks 10 (tabbed (fields_for r))
-letter_first (Set class column last) e = refl
-letter_first (Limit o) e = refl
-letter_first (ImmediateOrCancel o) e = refl
-letter_first (Stop o) e = refl
-letter_first (Market side member shares) e = refl
-letter_first (Cancel member number) e = refl
-letter_first (FloorTrade price shares) e = refl
-letter_first Resume e = refl
-letter_first Open e = refl
-letter_first Close e = refl
+letter_first : (r : Record) → marks 10 (bytes_for r) ≡ marks 10 (tabbed (fields_for r))
+letter_first r =
+    let high = kind_spelling.high (kind_for r) in
+    let rest = marks 10 (tabbed (fields_for r)) in
+    ap (λ b. cond b (1 + rest) rest) (ne_eqb (kind_letter (kind_for r)) 10 (λ e. omega arith))
 
 module _ (r : Record) (fits : all_fit (numbers_of r) ≡ true) where
   one_line : marks 10 (bytes_for r) ≡ 0
-  one_line = letter_first r fits ∙ lines_free (fields_for r) (fields_free 10 (omega arith) r fits)
+  one_line = letter_first r ∙ lines_free (fields_for r) (fields_free 10 (omega arith) r fits)
 
   pub text_back : (after : List ℕ) → read_of ((bytes_for r ++ 10 ∷ []) ++ after) ≡ Ok (r, after)
   text_back after =

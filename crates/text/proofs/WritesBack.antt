@@ -2,11 +2,9 @@
 use Rattle.std.proofs.Common.{◌≡◌, ℕ, ◌≤◌, Bool, true, false, cond, ◌&&◌, eqb, leb, List, [], ◌∷◌, ◌++◌, length, get_or, Some, None, Ok, Err, decimal, Option, Result, sym, refl, ap, ◌∙◌, subst, arith}
 use Rattle.std.proofs.lemmas.Bool.Decides.{nat_tests}
 use Rattle.market.specs.declared.words.Side.{Side}
-use Rattle.market.specs.declared.words.Side.TheVariants.{Buy, Sell}
 use Rattle.market.specs.declared.words.Column.{Column}
-use Rattle.market.specs.declared.words.Column.TheVariants.{Lower, Higher}
 use Rattle.text.specs.declared.refusal.Refusal.TheVariants.{FieldCount, NumberTooLarge}
-use Rattle.text.specs.declared.record.PricedOrder.{PricedOrder}
+use Rattle.market.specs.declared.words.PricedOrder.{PricedOrder}
 use Rattle.text.specs.declared.record.Record.{Record}
 use Rattle.text.specs.declared.record.Record.TheVariants.{Set, Limit, ImmediateOrCancel, Stop, Market, Cancel, FloorTrade, Resume, Open, Close}
 use Rattle.text.specs.declared.record.RecordKind.{RecordKind}
@@ -14,58 +12,36 @@ use Rattle.text.specs.declared.record.RecordKind.TheVariants.{Set as SetKind, Li
 use Rattle.text.specs.declared.field.LineFault.{LineFault}
 use Rattle.text.specs.Cuts.{up_to, past, marks, field_at, field_count}
 use Rattle.text.specs.Numbers.{number_in}
-use Rattle.text.specs.Letters.{only_byte, named, kind_of, side_of, column_of, kind_in, side_in, column_in, kind_letter, side_letter, column_letter, fields_of}
+use Rattle.text.specs.Letters.{only_byte, named, kind_in, side_in, column_in, kind_letter, side_letter, column_letter, fields_of}
+use Rattle.text.specs.Spelling.{IsSpelling}
+use Rattle.text.specs.Spelled.{kind_spelling, side_spelling, column_spelling}
 use Rattle.text.specs.Reading.{fault_at, set_from, set_in, priced_from, priced_in, market_from, market_in, pair_from, pair_in, as_record, fields_as, record_as, record_in}
 use Rattle.text.specs.Written.{tabbed, priced_fields, bytes_for, all_fit, priced_numbers, numbers_of, line_for}
 use Rattle.text.proofs.Numerals.{writes_back, number_fits}
 use Rattle.text.proofs.Fields.{fields_from, fields_joined}
 
-err_ok : {A E : Type 0} {f : E} {x : A} → Err f ≡ Ok x → ⊥
-err_ok e = let z : ◌≡◌ {A = ℕ} 0 1 = cc in omega arith
-
-none_some : {A : Type 0} {x : A} → None ≡ Some x → ⊥
-none_some e = let z : ◌≡◌ {A = ℕ} 0 1 = cc in omega arith
-
 -- letters ---------------------------------------------------------------------------------------------------------------
--- a letter of a list of letters
-letter_is : {K : Type 0} (spell : K → ℕ) (c : ℕ) (k : K) (letter : ℕ) (kind : K) (others : Option K) → letter ≡ spell kind → cond (eqb c letter) (Some kind) others ≡ Some k → (others ≡ Some k → c ≡ spell k) → c ≡ spell k
-letter_is spell c k letter kind others is e next = go (eqb c letter) refl e
-  where
-    go : (b : Bool) → eqb c letter ≡ b → cond b (Some kind) others ≡ Some k → c ≡ spell k
-    go true same found = let x : c ≡ letter = grind (arith, nat_tests) in let y : kind ≡ k = cc in x ∙ is ∙ ap spell y
-    go false same found = next found
-
-side_is : (c : ℕ) (s : Side) → side_of c ≡ Some s → c ≡ side_letter s
-side_is c s e = letter_is side_letter c s 66 Buy _ refl e (λ e. letter_is side_letter c s 83 Sell None refl e (λ e. absurd (none_some e)))
-
-column_is : (c : ℕ) (k : Column) → column_of c ≡ Some k → c ≡ column_letter k
-column_is c k e = letter_is column_letter c k 76 Lower _ refl e (λ e. letter_is column_letter c k 72 Higher None refl e (λ e. absurd (none_some e)))
-
-kind_is : (c : ℕ) (k : RecordKind) → kind_of c ≡ Some k → c ≡ kind_letter k
-kind_is c k e =
-    letter_is kind_letter c k 71 SetKind _ refl e (λ e. letter_is kind_letter c k 78 LimitKind _ refl e (λ e. letter_is kind_letter c k 73 ImmediateKind _ refl e (λ e. letter_is kind_letter c k 84 StopKind _ refl e (λ e. letter_is kind_letter c k 77 MarketKind _ refl e (λ e. letter_is kind_letter c k 67 CancelKind _ refl e (λ e. letter_is kind_letter c k 70 FloorKind _ refl e (λ e. letter_is kind_letter c k 82 ResumeKind _ refl e (λ e. letter_is kind_letter c k 79 OpenKind _ refl e (λ e. letter_is kind_letter c k 90 CloseKind None refl e (λ e. absurd (none_some e)))))))))))
-
 one_byte : (f : List ℕ) → length f ≡ 1 → f ≡ get_or f 0 0 ∷ []
 one_byte [] e = absurd (omega arith)
 one_byte (c ∷ []) e = refl
 one_byte (c ∷ d ∷ more) e = absurd (omega arith)
 
 -- a field of one letter is that letter
-field_is : {K : Type 0} (meaning : ℕ → Option K) (spell : K → ℕ) → ((c : ℕ) (k : K) → meaning c ≡ Some k → c ≡ spell k) → (f : List ℕ) (k : K) → named meaning (only_byte f) ≡ Some k → spell k ∷ [] ≡ f
-field_is meaning spell means f k e = go (eqb (length f) 1) refl e
+field_is : {K : Type 0} {meaning : ℕ → Option K} {letter : K → ℕ} → IsSpelling meaning letter → (f : List ℕ) (k : K) → named meaning (only_byte f) ≡ Some k → letter k ∷ [] ≡ f
+field_is {meaning = meaning} {letter = letter} spelling f k e = go (eqb (length f) 1) refl e
   where
-    go : (b : Bool) → eqb (length f) 1 ≡ b → named meaning (cond b (Some (get_or f 0 0)) None) ≡ Some k → spell k ∷ [] ≡ f
-    go true one found = let l : length f ≡ 1 = grind (arith, nat_tests) in sym (one_byte f l ∙ ap (λ c. c ∷ []) (means (get_or f 0 0) k found))
-    go false one found = absurd (none_some found)
+    go : (b : Bool) → eqb (length f) 1 ≡ b → named meaning (cond b (Some (get_or f 0 0)) None) ≡ Some k → letter k ∷ [] ≡ f
+    go true one found = let l : length f ≡ 1 = grind (arith, nat_tests) in sym (one_byte f l ∙ ap (λ c. c ∷ []) (spelling.writes_back (get_or f 0 0) k found))
+    go false one found = cc
 
 side_field : (f : List ℕ) (s : Side) → side_in f ≡ Some s → side_letter s ∷ [] ≡ f
-side_field = field_is side_of side_letter side_is
+side_field = field_is side_spelling
 
 column_field : (f : List ℕ) (k : Column) → column_in f ≡ Some k → column_letter k ∷ [] ≡ f
-column_field = field_is column_of column_letter column_is
+column_field = field_is column_spelling
 
 kind_field : (f : List ℕ) (k : RecordKind) → kind_in f ≡ Some k → kind_letter k ∷ [] ≡ f
-kind_field = field_is kind_of kind_letter kind_is
+kind_field = field_is kind_spelling
 
 -- fields ----------------------------------------------------------------------------------------------------------------
 -- what was written of a record is the line, and each number fits
@@ -77,36 +53,36 @@ line_again : (letter n : ℕ) (line : List ℕ) (fs : List (List ℕ)) → lette
 line_again letter n line fs is m e = ap (λ f. letter ∷ tabbed f) e ∙ ap (λ l. l ++ tabbed (fields_from n (past 9 line))) is ∙ sym (fields_joined n line m)
 
 set_parts : (G : Type 0) (a : Option ℕ) (b : Option Column) (c : Option ℕ) (r : Record) → set_from a b c ≡ Ok r → ((x : ℕ) (k : Column) (y : ℕ) → a ≡ Some x → b ≡ Some k → c ≡ Some y → Set x k y ≡ r → G) → G
-set_parts G None b c r e next = absurd (err_ok e)
-set_parts G (Some x) None c r e next = absurd (err_ok e)
-set_parts G (Some x) (Some k) None r e next = absurd (err_ok e)
+set_parts G None b c r e next = cc
+set_parts G (Some x) None c r e next = cc
+set_parts G (Some x) (Some k) None r e next = cc
 set_parts G (Some x) (Some k) (Some y) r e next = next x k y refl refl refl (cc)
 
 priced_parts : (G : Type 0) (a : Option Side) (b c d : Option ℕ) (o : PricedOrder) → priced_from a b c d ≡ Ok o → (a ≡ Some o.side → b ≡ Some o.member → c ≡ Some o.price → d ≡ Some o.shares → G) → G
-priced_parts G None b c d o e next = absurd (err_ok e)
-priced_parts G (Some s) None c d o e next = absurd (err_ok e)
-priced_parts G (Some s) (Some m) None d o e next = absurd (err_ok e)
-priced_parts G (Some s) (Some m) (Some p) None o e next = absurd (err_ok e)
+priced_parts G None b c d o e next = cc
+priced_parts G (Some s) None c d o e next = cc
+priced_parts G (Some s) (Some m) None d o e next = cc
+priced_parts G (Some s) (Some m) (Some p) None o e next = cc
 priced_parts G (Some s) (Some m) (Some p) (Some q) o e next =
     let is : record { side = s; member = m; price = p; shares = q } ≡ o = cc in
     next (ap (λ (x : PricedOrder). Some x.side) is) (ap (λ (x : PricedOrder). Some x.member) is) (ap (λ (x : PricedOrder). Some x.price) is) (ap (λ (x : PricedOrder). Some x.shares) is)
 
 market_parts : (G : Type 0) (a : Option Side) (b c : Option ℕ) (r : Record) → market_from a b c ≡ Ok r → ((s : Side) (x y : ℕ) → a ≡ Some s → b ≡ Some x → c ≡ Some y → Market s x y ≡ r → G) → G
-market_parts G None b c r e next = absurd (err_ok e)
-market_parts G (Some s) None c r e next = absurd (err_ok e)
-market_parts G (Some s) (Some x) None r e next = absurd (err_ok e)
+market_parts G None b c r e next = cc
+market_parts G (Some s) None c r e next = cc
+market_parts G (Some s) (Some x) None r e next = cc
 market_parts G (Some s) (Some x) (Some y) r e next = next s x y refl refl refl (cc)
 
 pair_parts : (G : Type 0) (a b : Option ℕ) (p : ℕ × ℕ) → pair_from a b ≡ Ok p → (a ≡ Some p.0 → b ≡ Some p.1 → G) → G
-pair_parts G None b p e next = absurd (err_ok e)
-pair_parts G (Some x) None p e next = absurd (err_ok e)
+pair_parts G None b p e next = cc
+pair_parts G (Some x) None p e next = cc
 pair_parts G (Some x) (Some y) p e next =
     let is : ◌≡◌ {A = ℕ × ℕ} (x, y) p = cc in
     next (ap (λ (q : ℕ × ℕ). Some q.0) is) (ap (λ (q : ℕ × ℕ). Some q.1) is)
 
 made_from : {A : Type 0} (G : Type 0) (made : A → Record) (x : Result A LineFault) (r : Record) → as_record made x ≡ Ok r → ((a : A) → x ≡ Ok a → made a ≡ r → G) → G
 made_from G made (Ok a) r e next = next a refl (cc)
-made_from G made (Err f) r e next = absurd (err_ok e)
+made_from G made (Err f) r e next = cc
 
 -- by kind ---------------------------------------------------------------------------------------------------------------
 fit_one : (n : ℕ) (others : Bool) → n ≤ 9999999 → others ≡ true → (leb n 9999999 && others) ≡ true
@@ -172,10 +148,10 @@ module _ (line : List ℕ) where
 
   counted_again : (k : RecordKind) (r : Record) → kind_letter k ∷ [] ≡ up_to 9 line → (b : Bool) → eqb (field_count line) (fields_of k) ≡ b → cond b (fields_as k line) (Err (fault_at FieldCount 0)) ≡ Ok r → Again line r
   counted_again k r is true t e = by_kind k r is (let n : field_count line ≡ fields_of k = grind (arith, nat_tests) in n) e
-  counted_again k r is false t e = absurd (err_ok e)
+  counted_again k r is false t e = cc
 
   kinded_again : (r : Record) (k : Option RecordKind) → kind_in (up_to 9 line) ≡ k → record_as k line ≡ Ok r → Again line r
-  kinded_again r None is e = absurd (err_ok e)
+  kinded_again r None is e = cc
   kinded_again r (Some k) is e = counted_again k r (kind_field (up_to 9 line) k is) (eqb (field_count line) (fields_of k)) refl e
 
   pub record_again : (r : Record) → record_in line ≡ Ok r → Again line r

@@ -2,6 +2,8 @@ pub mod Cuts
 pub mod Numbers
 pub mod Refusals
 pub mod Letters
+pub mod Spelling
+pub mod Spelled
 pub mod Reading
 pub mod Written
 pub mod RoundTrips

@@ -4,7 +4,7 @@ use Rattle.market.specs.declared.words.Side.{Side}
 use Rattle.market.specs.declared.words.Column.{Column}
 use Rattle.text.specs.declared.refusal.Refusal.{Refusal}
 use Rattle.text.specs.declared.refusal.Refusal.TheVariants.{EmptyText, UnknownLetter, FieldCount, BadNumber, BadLetter}
-use Rattle.text.specs.declared.record.PricedOrder.{PricedOrder}
+use Rattle.market.specs.declared.words.PricedOrder.{PricedOrder}
 use Rattle.text.specs.declared.record.Record.{Record}
 use Rattle.text.specs.declared.record.Record.TheVariants.{Set, Limit, ImmediateOrCancel, Stop, Market, Cancel, FloorTrade, Resume, Open, Close}
 use Rattle.text.specs.declared.record.RecordKind.{RecordKind}

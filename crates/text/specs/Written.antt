@@ -1,8 +1,8 @@
 -- The line that is written of a record or of a tape line, and what a buffer holds after.
-use Rattle.std.specs.Prelude.{ℕ, Bool, true, cond, ◌&&◌, List, [], ◌∷◌, ◌++◌, length, take, drop, Ok, Err, decimal, Result, nat_le}
+use Rattle.std.specs.Prelude.{ℕ, Bool, true, cond, ◌&&◌, List, [], ◌∷◌, ◌++◌, length, drop, Ok, Err, decimal, Result, nat_le}
 use Rattle.text.specs.declared.refusal.Refusal.{Refusal}
 use Rattle.text.specs.declared.refusal.Refusal.TheVariants.{NumberTooLarge, BufferTooShort}
-use Rattle.text.specs.declared.record.PricedOrder.{PricedOrder}
+use Rattle.market.specs.declared.words.PricedOrder.{PricedOrder}
 use Rattle.text.specs.declared.record.Record.{Record}
 use Rattle.text.specs.declared.record.Record.TheVariants.{Set, Limit, ImmediateOrCancel, Stop, Market, Cancel, FloorTrade, Resume, Open, Close}
 use Rattle.text.specs.declared.record.RecordKind.{RecordKind}
@@ -12,7 +12,7 @@ use Rattle.text.specs.Letters.{kind_letter, side_letter, column_letter}
 
 -- what a line under construction holds so far
 abbrev pub text_of : Line → List ℕ
-text_of line = take line.len line.bytes
+text_of line = line.bytes.items
 
 -- further fields, each behind a tab
 abbrev pub tabbed : List (List ℕ) → List ℕ

@@ -1,18 +1,12 @@
 // Where a text is cut: lines at byte 10, fields at byte 9.
-ghost use Rattle.std.specs.Prelude.{◌≡◌, ◌<◌, ◌≤◌, length};
+ghost use Rattle.std.specs.Prelude.{◌≡◌, ◌<◌, ◌≤◌, length, position, ◌==◌};
 ghost use Rattle.text.specs.Cuts.{up_to, past, marks};
 
-// How many bytes stand before the first mark.
-fn length_before(text: &[u8], mark: u8) -> usize
-    ensures front { result ≡ length (up_to mark text.now) }
-    ensures within { result ≤ length text.now }
+// Where the first mark stands, if there is one.
+fn first_mark(text: &[u8], mark: u8) -> Option<usize>
+    ensures { result ≡ position (λ c. c == mark) text.now }
 {
-    for (i, b) in text.iter().enumerate() {
-        if *b == mark {
-            return i;
-        }
-    }
-    text.len()
+    text.iter().position(|b| *b == mark)
 }
 
 // What stands before the first mark, and what stands behind it.
@@ -21,11 +15,9 @@ pub(crate) fn split_at_mark(text: &[u8], mark: u8) -> (&[u8], &[u8])
     ensures behind { result.1.now ≡ past mark text.now }
     ensures less { 0 < length text.now → length result.1.now < length text.now }
 {
-    let n = length_before(text, mark);
-    if n == text.len() {
-        (text, &text[n..])
-    } else {
-        (&text[0..n], &text[n + 1..])
+    match first_mark(text, mark) {
+        Some(n) => (&text[..n], &text[n + 1..]),
+        None => (text, &[]),
     }
 }
 
@@ -34,11 +26,5 @@ pub(crate) fn count_marks(text: &[u8], mark: u8) -> usize
     ensures count { result ≡ marks mark text.now }
     ensures within { result ≤ length text.now }
 {
-    let mut n = 0;
-    for b in text {
-        if *b == mark {
-            n += 1;
-        }
-    }
-    n
+    text.iter().filter(|b| **b == mark).count()
 }

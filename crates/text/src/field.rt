@@ -1,33 +1,42 @@
 // The fields of a line, one after the other.
-ghost use Rattle.std.specs.Prelude.{◌≡◌, ℕ, ◌+◌, ◌<◌, List, Some, None, Option as Maybe, MatchResult};
+ghost use Rattle.std.specs.Prelude.{◌≡◌, ℕ, ◌+◌, ◌<◌, ◌≤◌, List, [], ◌∷◌, ◌++◌, Some, None, Option as Maybe, MatchResult, decimal};
+ghost use Rattle.arrayvec.specs.ArrayVec.{array_vec_len};
 ghost use Rattle.text.specs.Cuts.{up_to, past};
 ghost use Rattle.text.specs.Numbers.{number_in};
-ghost use Rattle.text.specs.Letters.{side_in, column_in};
+ghost use Rattle.text.specs.Letters.{only_byte, named};
 ghost use Rattle.text.specs.Reading.{fault_at};
 ghost use Rattle.text.specs.declared.refusal.Refusal.{Refusal as RefusalOf};
 ghost use Rattle.text.specs.declared.refusal.Refusal.TheVariants.{BadNumber, BadLetter};
 
 use crate::cut::split_at_mark;
-use crate::letter::{column_in, side_in};
+use crate::letter::Lettered;
 use crate::number::number_in;
 use crate::refusal::Refusal;
-use market::words::{Column, Side};
+use arrayvec::ArrayVec;
+use itoa::Buffer;
 
-// What is wrong with a line, and in which field: the letter is field 1, 0 is the whole line.
+// What is wrong with a line, and in which field: the letter is field 1. No `Option`: 0, the whole line, is printed as such.
 #[derive(Clone, Copy)]
 pub(crate) struct LineFault {
     pub(crate) cause: Refusal,
     pub(crate) field: u32,
 }
 
-// What a field can hold, and how it is refused where it does not.
-pub(crate) trait FieldValue: Sized {
+// What a field can hold, how it is written, and how a field that does not hold one is refused.
+pub(crate) trait FieldValue: Copy {
     ghost meaning: { List ℕ → Maybe Self };
+
+    ghost text: { Self → List ℕ };
 
     ghost cause: { RefusalOf };
 
     fn in_field(field: &[u8]) -> Option<Self>
         ensures { result ≡ meaning field.now };
+
+    fn append_to(self, line: &mut ArrayVec<u8, 64>)
+        requires { array_vec_len line.old + 10 ≤ 64 }
+        ensures text { line.new.items ≡ line.old.items ++ text self }
+        ensures within { array_vec_len line.new ≤ array_vec_len line.old + 10 };
 
     fn refusal() -> Refusal
         ensures { result ≡ cause };
@@ -36,10 +45,16 @@ pub(crate) trait FieldValue: Sized {
 impl FieldValue for u32 {
     ghost meaning = { number_in };
 
+    ghost text = { decimal };
+
     ghost cause = { BadNumber };
 
     fn in_field(field: &[u8]) -> Option<u32> {
         number_in(field)
+    }
+
+    fn append_to(self, line: &mut ArrayVec<u8, 64>) {
+        let _fits = line.try_extend_from_slice(Buffer::new().format(self).as_bytes());
     }
 
     fn refusal() -> Refusal {
@@ -47,27 +62,22 @@ impl FieldValue for u32 {
     }
 }
 
-impl FieldValue for Side {
-    ghost meaning = { side_in };
+impl<L: Lettered> FieldValue for L {
+    ghost meaning = { λ field. named L.meaning (only_byte field) };
+
+    ghost text = { λ value. L.letter value ∷ [] };
 
     ghost cause = { BadLetter };
 
-    fn in_field(field: &[u8]) -> Option<Side> {
-        side_in(field)
+    fn in_field(field: &[u8]) -> Option<L> {
+        match field {
+            [byte] => L::from_letter(*byte),
+            _ => None,
+        }
     }
 
-    fn refusal() -> Refusal {
-        Refusal::BadLetter
-    }
-}
-
-impl FieldValue for Column {
-    ghost meaning = { column_in };
-
-    ghost cause = { BadLetter };
-
-    fn in_field(field: &[u8]) -> Option<Column> {
-        column_in(field)
+    fn append_to(self, line: &mut ArrayVec<u8, 64>) {
+        line.push(self.letter());
     }
 
     fn refusal() -> Refusal {
@@ -104,12 +114,9 @@ impl<'a> Fields<'a> {
         ensures place { self.new.place ≡ self.old.place + 1 }
     {
         let field = self.place;
-        match V::in_field(self.take_bytes()) {
-            Some(value) => Ok(value),
-            None => Err(LineFault {
-                cause: V::refusal(),
-                field,
-            }),
-        }
+        V::in_field(self.take_bytes()).ok_or(LineFault {
+            cause: V::refusal(),
+            field,
+        })
     }
 }

@@ -1,14 +1,12 @@
 // A day file shown line by line, before anything is replayed.
-ghost use Rattle.std.specs.Prelude.{◌≡◌, ◌+◌, ◌<◌, ◌≤◌, not, ◌++◌, length, is_ok, IfOk, OnOk};
-ghost use Rattle.text.specs.Cuts.{line_of, next_of};
-ghost use Rattle.text.specs.Reading.{record_in};
+ghost use Rattle.std.specs.Prelude.{◌≡◌, ◌≤◌, ◌++◌, length, IfOk, OnOk};
 ghost use Rattle.text.specs.Written.{text_of};
-ghost use Rattle.text.specs.Inspection.{lines_of, refusal_line, shown_as, shown_from, good_in, refused_in, inspected, one};
+ghost use Rattle.text.specs.Inspection.{lines_of, refusal_line, summary_line, shown_from, good_in, refused_in, inspected};
 
 use crate::line::Line;
 use crate::read::read_line;
 use crate::refusal::Refusal;
-use crate::write::{line_of, pair_line};
+use crate::write::line_of;
 use std::alloc::{AllocError, Global};
 
 // The longest input that is read, in bytes.
@@ -21,68 +19,22 @@ struct Tally {
     refused: u32,
 }
 
-impl Tally {
-    // The tally with one line more.
-    fn with_line(self, accepted: bool) -> Tally
-        requires { self.good + self.refused < 32768 }
-        ensures good { result.good ≡ self.good + one accepted }
-        ensures refused { result.refused ≡ self.refused + one (not accepted) }
-    {
-        if accepted {
-            Tally {
-                good: self.good + 1,
-                refused: self.refused,
-            }
-        } else {
-            Tally {
-                good: self.good,
-                refused: self.refused + 1,
-            }
-        }
-    }
-}
-
-// What became of one line, and where the next begins.
-#[derive(Clone, Copy)]
-struct Seen {
-    good: bool,
-    next: usize,
-}
-
 fn refusal_line(number: u32, cause: Refusal, field: u32) -> Line
     ensures { text_of result ≡ refusal_line number cause field }
 {
     Line::new(b'!')
-        .number(number)
+        .field(number)
         .letter(b'T')
-        .number(cause.code())
-        .number(field)
+        .field(cause.code())
+        .field(field)
         .end()
 }
 
-// Shows the first line of a text that is not empty.
-fn inspect_line(out: &mut Vec<u8>, text: &[u8], number: u32) -> Result<Seen, AllocError>
-    requires { 0 < length text.now }
-    ensures shown { OnOk result (out.new.items ≡ out.old.items ++ shown_as number (record_in (line_of text.now))) }
-    ensures good { IfOk result (λ s. s.good ≡ is_ok (record_in (line_of text.now))) }
-    ensures next { IfOk result (λ s. s.next ≡ next_of text.now) }
+fn summary_line(tally: Tally) -> Line
+    ensures { text_of result ≡ summary_line tally.good tally.refused }
 {
-    match read_line(text) {
-        Ok(read) => {
-            out.extend_from_slice(line_of(read.record).as_slice())?;
-            Ok(Seen {
-                good: true,
-                next: text.len() - read.rest.len(),
-            })
-        }
-        Err(fault) => {
-            out.extend_from_slice(refusal_line(number, fault.cause, fault.field).as_slice())?;
-            Ok(Seen {
-                good: false,
-                next: fault.next,
-            })
-        }
-    }
+    let Tally { good, refused } = tally;
+    Line::new(b'#').field(good).field(refused).end()
 }
 
 // Shows every line of a text, and counts them.
@@ -98,10 +50,19 @@ fn inspect_lines(out: &mut Vec<u8>, text: &[u8]) -> Result<Tally, AllocError>
         refused: 0,
     };
     while !rest.is_empty() {
-        let seen = inspect_line(out, rest, tally.good + tally.refused + 1)?;
-        tally = tally.with_line(seen.good);
-        let next = seen.next;
-        rest = &rest[next..];
+        match read_line(rest) {
+            Ok(read) => {
+                out.extend_from_slice(line_of(read.record).as_slice())?;
+                tally.good += 1;
+                rest = read.rest;
+            }
+            Err(fault) => {
+                let number = tally.good + tally.refused + 1;
+                out.extend_from_slice(refusal_line(number, fault.cause, fault.field).as_slice())?;
+                tally.refused += 1;
+                rest = &rest[fault.next..];
+            }
+        }
     }
     Ok(tally)
 }
@@ -119,6 +80,6 @@ pub fn inspect(heap: Global, text: &[u8]) -> Result<Vec<u8>, AllocError>
         return Ok(out);
     }
     let tally = inspect_lines(&mut out, text)?;
-    out.extend_from_slice(pair_line(b'#', tally.good, tally.refused).as_slice())?;
+    out.extend_from_slice(summary_line(tally).as_slice())?;
     Ok(out)
 }

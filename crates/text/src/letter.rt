@@ -1,58 +1,109 @@
-// Fields that are one letter.
-ghost use Rattle.std.specs.Prelude.{◌≡◌};
-ghost use Rattle.text.specs.Letters.{only_byte, kind_in, side_in, column_in, side_letter, column_letter, fields_of};
+// Values that a line writes as one letter.
+ghost use Rattle.std.specs.Prelude.{◌≡◌, ℕ, Option as Maybe};
+ghost use Rattle.text.specs.Spelling.{IsSpelling};
+ghost use Rattle.text.specs.Letters.{kind_of, side_of, column_of, kind_letter, side_letter, column_letter, fields_of};
+ghost use Rattle.text.specs.Spelled.{kind_spelling, side_spelling, column_spelling};
 
 use crate::record::RecordKind;
 use market::words::{Column, Side};
 
-// The byte of a field that has just one.
-fn only_byte(field: &[u8]) -> Option<u8>
-    ensures { result ≡ only_byte field.now }
-{
-    if field.len() != 1 {
-        return None;
-    }
-    Some(field[0])
+pub(crate) trait Lettered: Copy {
+    ghost letter: { Self → ℕ };
+
+    ghost meaning: { ℕ → Maybe Self };
+
+    // Reading and writing undo each other.
+    ghost spelling: { IsSpelling meaning letter };
+
+    fn letter(self) -> u8
+        ensures { result ≡ letter self };
+
+    fn from_letter(byte: u8) -> Option<Self>
+        ensures { result ≡ meaning byte };
 }
 
-pub(crate) fn kind_in(field: &[u8]) -> Option<RecordKind>
-    ensures { result ≡ kind_in field.now }
-{
-    let byte = only_byte(field)?;
-    match char::from(byte) {
-        'G' => Some(RecordKind::Set),
-        'N' => Some(RecordKind::Limit),
-        'I' => Some(RecordKind::ImmediateOrCancel),
-        'T' => Some(RecordKind::Stop),
-        'M' => Some(RecordKind::Market),
-        'C' => Some(RecordKind::Cancel),
-        'F' => Some(RecordKind::FloorTrade),
-        'R' => Some(RecordKind::Resume),
-        'O' => Some(RecordKind::Open),
-        'Z' => Some(RecordKind::Close),
-        _ => None,
-    }
-}
+impl Lettered for Side {
+    ghost letter = { side_letter };
 
-pub(crate) fn side_in(field: &[u8]) -> Option<Side>
-    ensures { result ≡ side_in field.now }
-{
-    let byte = only_byte(field)?;
-    match char::from(byte) {
-        'B' => Some(Side::Buy),
-        'S' => Some(Side::Sell),
-        _ => None,
+    ghost meaning = { side_of };
+
+    ghost spelling = { side_spelling };
+
+    fn letter(self) -> u8 {
+        match self {
+            Side::Buy => b'B',
+            Side::Sell => b'S',
+        }
+    }
+
+    fn from_letter(byte: u8) -> Option<Side> {
+        match char::from(byte) {
+            'B' => Some(Side::Buy),
+            'S' => Some(Side::Sell),
+            _ => None,
+        }
     }
 }
 
-pub(crate) fn column_in(field: &[u8]) -> Option<Column>
-    ensures { result ≡ column_in field.now }
-{
-    let byte = only_byte(field)?;
-    match char::from(byte) {
-        'L' => Some(Column::Lower),
-        'H' => Some(Column::Higher),
-        _ => None,
+impl Lettered for Column {
+    ghost letter = { column_letter };
+
+    ghost meaning = { column_of };
+
+    ghost spelling = { column_spelling };
+
+    fn letter(self) -> u8 {
+        match self {
+            Column::Lower => b'L',
+            Column::Higher => b'H',
+        }
+    }
+
+    fn from_letter(byte: u8) -> Option<Column> {
+        match char::from(byte) {
+            'L' => Some(Column::Lower),
+            'H' => Some(Column::Higher),
+            _ => None,
+        }
+    }
+}
+
+impl Lettered for RecordKind {
+    ghost letter = { kind_letter };
+
+    ghost meaning = { kind_of };
+
+    ghost spelling = { kind_spelling };
+
+    fn letter(self) -> u8 {
+        match self {
+            RecordKind::Set => b'G',
+            RecordKind::Limit => b'N',
+            RecordKind::ImmediateOrCancel => b'I',
+            RecordKind::Stop => b'T',
+            RecordKind::Market => b'M',
+            RecordKind::Cancel => b'C',
+            RecordKind::FloorTrade => b'F',
+            RecordKind::Resume => b'R',
+            RecordKind::Open => b'O',
+            RecordKind::Close => b'Z',
+        }
+    }
+
+    fn from_letter(byte: u8) -> Option<RecordKind> {
+        match char::from(byte) {
+            'G' => Some(RecordKind::Set),
+            'N' => Some(RecordKind::Limit),
+            'I' => Some(RecordKind::ImmediateOrCancel),
+            'T' => Some(RecordKind::Stop),
+            'M' => Some(RecordKind::Market),
+            'C' => Some(RecordKind::Cancel),
+            'F' => Some(RecordKind::FloorTrade),
+            'R' => Some(RecordKind::Resume),
+            'O' => Some(RecordKind::Open),
+            'Z' => Some(RecordKind::Close),
+            _ => None,
+        }
     }
 }
 
@@ -62,34 +113,10 @@ impl RecordKind {
         ensures { result ≡ fields_of self }
     {
         match self {
-            RecordKind::Set => 4,
-            RecordKind::Limit => 5,
-            RecordKind::ImmediateOrCancel => 5,
-            RecordKind::Stop => 5,
-            RecordKind::Market => 4,
-            RecordKind::Cancel => 3,
-            RecordKind::FloorTrade => 3,
-            RecordKind::Resume => 1,
-            RecordKind::Open => 1,
-            RecordKind::Close => 1,
+            RecordKind::Limit | RecordKind::ImmediateOrCancel | RecordKind::Stop => 5,
+            RecordKind::Set | RecordKind::Market => 4,
+            RecordKind::Cancel | RecordKind::FloorTrade => 3,
+            RecordKind::Resume | RecordKind::Open | RecordKind::Close => 1,
         }
-    }
-}
-
-pub(crate) fn side_letter(side: Side) -> u8
-    ensures { result ≡ side_letter side }
-{
-    match side {
-        Side::Buy => b'B',
-        Side::Sell => b'S',
-    }
-}
-
-pub(crate) fn column_letter(column: Column) -> u8
-    ensures { result ≡ column_letter column }
-{
-    match column {
-        Column::Lower => b'L',
-        Column::Higher => b'H',
     }
 }

@@ -1,6 +1,5 @@
 #![tactic(auto)]
 
-mod compose;
 mod cut;
 mod field;
 pub mod inspection;

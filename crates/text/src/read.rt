@@ -5,13 +5,13 @@ ghost use Rattle.text.specs.Reading.{set_in, priced_in, market_in, pair_in, fiel
 ghost use Rattle.text.specs.RoundTrips.{WritesBack};
 
 use crate::cut::{count_marks, split_at_mark};
-use crate::field::{Fields, LineFault};
-use crate::letter::kind_in;
-use crate::record::{PricedOrder, Record, RecordKind};
+use crate::field::{FieldValue, Fields, LineFault};
+use crate::record::{Record, RecordKind};
 use crate::refusal::Refusal;
-use market::words::{Column, Side};
+use market::words::{Column, PricedOrder, Side};
 
-// Why a line was refused, its field's place, and where the next line begins.
+// Why a line was refused, its field's place (0, the whole line, is printed as such), and where the next line begins, which is known only
+// to whoever read the text.
 #[derive(Clone, Copy)]
 pub struct Fault {
     pub cause: Refusal,
@@ -117,12 +117,10 @@ pub(crate) fn read_record(line: &[u8]) -> Result<Record, LineFault>
     ensures { result ≡ record_in line.now }
 {
     let (letter, _) = split_at_mark(line, b'\t');
-    let Some(kind) = kind_in(letter) else {
-        return Err(LineFault {
-            cause: Refusal::UnknownLetter,
-            field: 0,
-        });
-    };
+    let kind = RecordKind::in_field(letter).ok_or(LineFault {
+        cause: Refusal::UnknownLetter,
+        field: 0,
+    })?;
     if count_marks(line, b'\t') + 1 != kind.field_count() {
         return Err(LineFault {
             cause: Refusal::FieldCount,
@@ -145,12 +143,10 @@ pub fn read_line(text: &[u8]) -> Result<Read<'_>, Fault>
         });
     }
     let (line, rest) = split_at_mark(text, b'\n');
-    match read_record(line) {
-        Ok(record) => Ok(Read { record, rest }),
-        Err(fault) => Err(Fault {
-            cause: fault.cause,
-            field: fault.field,
-            next: text.len() - rest.len(),
-        }),
-    }
+    let record = read_record(line).map_err(|fault| Fault {
+        cause: fault.cause,
+        field: fault.field,
+        next: text.len() - rest.len(),
+    })?;
+    Ok(Read { record, rest })
 }

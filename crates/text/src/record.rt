@@ -1,14 +1,7 @@
 // The records that day lines hold.
-use market::words::{Column, Side};
+ghost use Rattle.std.specs.Prelude.{◌≡◌};
 
-// An order with a limit or a stop price.
-#[derive(Clone, Copy)]
-pub struct PricedOrder {
-    pub side: Side,
-    pub member: u32,
-    pub price: u32,
-    pub shares: u32,
-}
+use market::words::{Column, PricedOrder, Side};
 
 #[derive(Clone, Copy)]
 pub enum Record {
@@ -51,4 +44,25 @@ pub(crate) enum RecordKind {
     Resume,
     Open,
     Close,
+}
+
+impl Record {
+    ghost use Rattle.text.specs.Written.{kind_for};
+
+    pub(crate) fn kind(self) -> RecordKind
+        ensures { result ≡ kind_for self }
+    {
+        match self {
+            Record::Set { .. } => RecordKind::Set,
+            Record::Limit(_) => RecordKind::Limit,
+            Record::ImmediateOrCancel(_) => RecordKind::ImmediateOrCancel,
+            Record::Stop(_) => RecordKind::Stop,
+            Record::Market { .. } => RecordKind::Market,
+            Record::Cancel { .. } => RecordKind::Cancel,
+            Record::FloorTrade { .. } => RecordKind::FloorTrade,
+            Record::Resume => RecordKind::Resume,
+            Record::Open => RecordKind::Open,
+            Record::Close => RecordKind::Close,
+        }
+    }
 }

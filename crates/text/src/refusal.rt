@@ -2,16 +2,17 @@
 ghost use Rattle.std.specs.Prelude.{◌≡◌};
 ghost use Rattle.text.specs.Refusals.{code_of};
 
+// Each with the number that is printed for it.
 #[derive(Clone, Copy, PartialEq, Eq, Debug)]
 pub enum Refusal {
-    EmptyText,
-    UnknownLetter,
-    FieldCount,
-    BadNumber,
-    BadLetter,
-    NumberTooLarge,
-    BufferTooShort,
-    InputTooLong,
+    EmptyText = 10,
+    UnknownLetter = 11,
+    FieldCount = 12,
+    BadNumber = 13,
+    BadLetter = 14,
+    NumberTooLarge = 15,
+    BufferTooShort = 16,
+    InputTooLong = 17,
 }
 
 impl Refusal {
@@ -19,15 +20,6 @@ impl Refusal {
     pub fn code(self) -> u32
         ensures { result ≡ code_of self }
     {
-        match self {
-            Refusal::EmptyText => 10,
-            Refusal::UnknownLetter => 11,
-            Refusal::FieldCount => 12,
-            Refusal::BadNumber => 13,
-            Refusal::BadLetter => 14,
-            Refusal::NumberTooLarge => 15,
-            Refusal::BufferTooShort => 16,
-            Refusal::InputTooLong => 17,
-        }
+        self as u32
     }
 }

@@ -1,35 +1,16 @@
 // Writing a line of the tape at the start of a buffer.
-ghost use Rattle.std.specs.Prelude.{◌≡◌, [], ◌∷◌, ◌++◌, Ok, decimal};
-ghost use Rattle.text.specs.Written.{text_of, tabbed, put_length, put_buffer};
+ghost use Rattle.std.specs.Prelude.{◌≡◌, ◌≤◌, [], ◌∷◌, ◌++◌, length, Ok};
+ghost use Rattle.text.specs.Written.{text_of, put_length, put_buffer};
 ghost use Rattle.text.specs.Tape.{tape_bytes};
 
 use crate::line::Line;
 use crate::refusal::Refusal;
-use crate::write::pair_line;
 use market::words::TapeLine;
 
-fn print_line(order: u32, price: u32, shares: u32, low: u32, high: u32) -> Line
-    ensures { text_of result ≡ (80 ∷ tabbed (decimal order ∷ decimal price ∷ decimal shares ∷ decimal low ∷ decimal high ∷ [])) ++ 10 ∷ [] }
-{
-    Line::new(b'P')
-        .number(order)
-        .number(price)
-        .number(shares)
-        .number(low)
-        .number(high)
-        .end()
-}
-
-fn elect_line(order: u32) -> Line
-    ensures { text_of result ≡ (69 ∷ tabbed (decimal order ∷ [])) ++ 10 ∷ [] }
-{
-    Line::new(b'E').number(order).end()
-}
-
-// Puts the line and its end at the buffer's start, and answers how many bytes that are.
-pub fn write_tape_line(line: TapeLine, buffer: &mut [u8]) -> Result<usize, Refusal>
-    ensures answer { result ≡ put_length (Ok (tape_bytes line ++ 10 ∷ [])) buffer.old }
-    ensures buffer { buffer.new ≡ put_buffer (Ok (tape_bytes line ++ 10 ∷ [])) buffer.old }
+// The line without its end.
+fn fields_of(line: TapeLine) -> Line
+    ensures text { text_of result ≡ tape_bytes line }
+    ensures within { length (text_of result) ≤ 56 }
 {
     match line {
         TapeLine::Print {
@@ -38,9 +19,22 @@ pub fn write_tape_line(line: TapeLine, buffer: &mut [u8]) -> Result<usize, Refus
             shares,
             low,
             high,
-        } => { print_line(order, price, shares, low, high).copy_to(buffer) }
-        TapeLine::Cancel { order, shares } => pair_line(b'X', order, shares).copy_to(buffer),
-        TapeLine::Elect { order } => elect_line(order).copy_to(buffer),
-        TapeLine::Floor { price, shares } => pair_line(b'F', price, shares).copy_to(buffer),
+        } => Line::new(b'P')
+            .field(order)
+            .field(price)
+            .field(shares)
+            .field(low)
+            .field(high),
+        TapeLine::Cancel { order, shares } => Line::new(b'X').field(order).field(shares),
+        TapeLine::Elect { order } => Line::new(b'E').field(order),
+        TapeLine::Floor { price, shares } => Line::new(b'F').field(price).field(shares),
     }
+}
+
+// Puts the line and its end at the buffer's start, and answers how many bytes that are.
+pub fn write_tape_line(line: TapeLine, buffer: &mut [u8]) -> Result<usize, Refusal>
+    ensures answer { result ≡ put_length (Ok (tape_bytes line ++ 10 ∷ [])) buffer.old }
+    ensures buffer { buffer.new ≡ put_buffer (Ok (tape_bytes line ++ 10 ∷ [])) buffer.old }
+{
+    fields_of(line).end().copy_to(buffer)
 }

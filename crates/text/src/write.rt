@@ -1,14 +1,13 @@
 // Writing a day line at the start of a buffer.
-ghost use Rattle.std.specs.Prelude.{◌≡◌, [], ◌∷◌, ◌++◌, decimal, nat_le};
-ghost use Rattle.text.specs.Letters.{side_letter, column_letter};
-ghost use Rattle.text.specs.Written.{text_of, tabbed, priced_fields, bytes_for, all_fit, priced_numbers, numbers_of, line_for, put_length, put_buffer};
+ghost use Rattle.std.specs.Prelude.{◌≡◌, ◌≤◌, [], ◌∷◌, ◌++◌, length, nat_le};
+ghost use Rattle.text.specs.Written.{text_of, bytes_for, all_fit, priced_numbers, numbers_of, line_for, put_length, put_buffer};
 ghost use Rattle.text.specs.RoundTrips.{ReadsBack};
 
-use crate::letter::{column_letter, side_letter};
+use crate::letter::Lettered;
 use crate::line::Line;
-use crate::record::{PricedOrder, Record};
+use crate::record::Record;
 use crate::refusal::Refusal;
-use market::words::{Column, Side};
+use market::words::PricedOrder;
 
 // The most that a line holds: 7 digits.
 const LARGEST: u32 = 9_999_999;
@@ -35,79 +34,50 @@ fn numbers_fit(record: Record) -> bool
             last_sale,
             ..
         } => fits(class) && fits(last_sale),
-        Record::Limit(order) => priced_fits(order),
-        Record::ImmediateOrCancel(order) => priced_fits(order),
-        Record::Stop(order) => priced_fits(order),
+        Record::Limit(order) | Record::ImmediateOrCancel(order) | Record::Stop(order) => {
+            priced_fits(order)
+        }
         Record::Market { member, shares, .. } => fits(member) && fits(shares),
         Record::Cancel { member, number } => fits(member) && fits(number),
         Record::FloorTrade { price, shares } => fits(price) && fits(shares),
-        Record::Resume => true,
-        Record::Open => true,
-        Record::Close => true,
+        Record::Resume | Record::Open | Record::Close => true,
     }
 }
 
-fn priced_line(letter: u8, order: PricedOrder) -> Line
-    ensures { text_of result ≡ (letter ∷ tabbed (priced_fields order)) ++ 10 ∷ [] }
+// The line of a record without its end.
+fn fields_of(record: Record) -> Line
+    ensures text { text_of result ≡ bytes_for «record» }
+    ensures within { length (text_of result) ≤ 56 }
 {
-    Line::new(letter)
-        .letter(side_letter(order.side))
-        .number(order.member)
-        .number(order.price)
-        .number(order.shares)
-        .end()
-}
-
-fn set_line(class: u32, column: Column, last_sale: u32) -> Line
-    ensures { text_of result ≡ (71 ∷ tabbed (decimal class ∷ (column_letter column ∷ []) ∷ decimal last_sale ∷ [])) ++ 10 ∷ [] }
-{
-    Line::new(b'G')
-        .number(class)
-        .letter(column_letter(column))
-        .number(last_sale)
-        .end()
-}
-
-fn market_line(side: Side, member: u32, shares: u32) -> Line
-    ensures { text_of result ≡ (77 ∷ tabbed ((side_letter side ∷ []) ∷ decimal member ∷ decimal shares ∷ [])) ++ 10 ∷ [] }
-{
-    Line::new(b'M')
-        .letter(side_letter(side))
-        .number(member)
-        .number(shares)
-        .end()
-}
-
-pub(crate) fn pair_line(letter: u8, first: u32, second: u32) -> Line
-    ensures { text_of result ≡ (letter ∷ tabbed (decimal first ∷ decimal second ∷ [])) ++ 10 ∷ [] }
-{
-    Line::new(letter).number(first).number(second).end()
+    let line = Line::new(record.kind().letter());
+    match record {
+        Record::Set {
+            class,
+            column,
+            last_sale,
+        } => line.field(class).field(column).field(last_sale),
+        Record::Limit(order) | Record::ImmediateOrCancel(order) | Record::Stop(order) => {
+            line.field(order.side)
+                .field(order.member)
+                .field(order.price)
+                .field(order.shares)
+        }
+        Record::Market {
+            side,
+            member,
+            shares,
+        } => line.field(side).field(member).field(shares),
+        Record::Cancel { member, number } => line.field(member).field(number),
+        Record::FloorTrade { price, shares } => line.field(price).field(shares),
+        Record::Resume | Record::Open | Record::Close => line,
+    }
 }
 
 // The line of a record, with its end.
 pub(crate) fn line_of(record: Record) -> Line
     ensures { text_of result ≡ bytes_for «record» ++ 10 ∷ [] }
 {
-    match record {
-        Record::Set {
-            class,
-            column,
-            last_sale,
-        } => set_line(class, column, last_sale),
-        Record::Limit(order) => priced_line(b'N', order),
-        Record::ImmediateOrCancel(order) => priced_line(b'I', order),
-        Record::Stop(order) => priced_line(b'T', order),
-        Record::Market {
-            side,
-            member,
-            shares,
-        } => market_line(side, member, shares),
-        Record::Cancel { member, number } => pair_line(b'C', member, number),
-        Record::FloorTrade { price, shares } => pair_line(b'F', price, shares),
-        Record::Resume => Line::new(b'R').end(),
-        Record::Open => Line::new(b'O').end(),
-        Record::Close => Line::new(b'Z').end(),
-    }
+    fields_of(record).end()
 }
 
 // Puts the record's line and its end at the buffer's start, and answers how many bytes that are.

@@ -1,16 +1,13 @@
 -- One order more on the roll of a board.
-use Rattle.std.proofs.Common.{◌≡◌, ℕ, suc, ◌+◌, ◌<◌, ◌≤◌, Bool, true, false, cond, ◌&&◌, eqb, List, [], ◌∷◌, ◌++◌, length, Some, None, sym, refl, ap, ◌∙◌, subst, arith}
+use Rattle.std.proofs.Common.{◌≡◌, ℕ, suc, ◌+◌, ◌<◌, ◌≤◌, Bool, true, false, cond, ◌&&◌, eqb, List, [], ◌∷◌, ◌++◌, length, Some, None, Option, sym, refl, ap, ◌∙◌, subst, arith}
 use Rattle.std.proofs.lemmas.Bool.{false≢true, lt-ltb, le-leb, eq-eqb, ne_eqb}
-use Rattle.market.specs.declared.words.Kind.{Kind}
-use Rattle.market.specs.declared.words.Kind.TheVariants.{Limit, Market, ImmediateOrCancel, Stop}
 use Rattle.market.specs.declared.words.Place.{Place}
 use Rattle.market.specs.declared.words.Place.TheVariants.{Nowhere, Book, Line, StopFile}
 use Rattle.market.specs.declared.words.Order.{Order}
-use Rattle.market.specs.Orders.{enter}
 use Rattle.orderbook.specs.declared.ticket.Ticket.{Ticket}
 use Rattle.orderbook.specs.Trades.{next, admits}
 use Rattle.replay.specs.Lists.{only}
-use Rattle.replay.specs.Rolls.{is_filed, is_market, look, found, filed, price_of, fresh}
+use Rattle.replay.specs.Rolls.{is_filed, look, found, filed, fresh}
 use Rattle.replay.specs.Moves.{line_with}
 use Rattle.replay.specs.RollHolds.{Numbered}
 use Rattle.replay.proofs.Lists.{length_push, total_push, all_map, all_push}
@@ -26,25 +23,13 @@ pub next_kind : (t : Ticket) (os : List Order) → (next t os).kind ≡ t.kind
 unfolding fresh
 next_kind t os = refl
 
-pub price_none : (k : Kind) (p : ℕ) → is_market k ≡ true → 0 ≡ price_of k p
-price_none Limit p e = absurd (false≢true e)
-price_none Market p e = refl
-price_none ImmediateOrCancel p e = absurd (false≢true e)
-price_none Stop p e = absurd (false≢true e)
-
-pub price_some : (k : Kind) (p : ℕ) → is_market k ≡ false → p ≡ price_of k p
-price_some Limit p e = refl
-price_some Market p e = absurd (false≢true (sym e))
-price_some ImmediateOrCancel p e = refl
-price_some Stop p e = refl
-
-pub next_is : (t : Ticket) (os : List Order) {n p : ℕ} → n ≡ suc (length os) → p ≡ price_of t.kind t.price → enter n t.member t.side t.kind p t.shares ≡ next t os
-unfolding fresh
-next_is t os a b = λ i. enter (a i) t.member t.side t.kind (b i) t.shares
-
 -- a book that has room takes it
 pub admitted : {X : Type 0} (t : Ticket) (os : List Order) (x y : X) {u : X} → length os < 512 → t.shares ≤ 1000000 → u ≡ cond (admits t os) x y → u ≡ x
 admitted t os x y a b e = e ∙ (λ i. cond (lt-ltb (length os) 512 a i && le-leb t.shares 1000000 b i) x y)
+
+-- and answers its number
+pub numbered : (t : Ticket) (os : List Order) {u : Option ℕ} {n : ℕ} → length os < 512 → t.shares ≤ 1000000 → u ≡ cond (admits t os) (Some (suc (length os))) None → u ≡ Some n → n ≡ suc (length os)
+numbered t os a b e h = let z = sym h ∙ admitted t os (Some (suc (length os))) None a b e in cc
 
 -- numbers ----------------------------------------------------------------------------------------------------------------
 numbered_push : (k : ℕ) (os : List Order) (o : Order) → Numbered k os → o.number ≡ k + length os → Numbered k (os ++ o ∷ [])
@@ -88,14 +73,11 @@ loose_none Book e = refl
 loose_none Line e = refl
 loose_none StopFile e = absurd (false≢true e)
 
-pub room_more : {os : List Order} {l : List ℕ} {j : ℕ} → length os < 512 → Ruled os l j → j < 512
-room_more {os} h r = omega (arith, r.room)
-
 -- it does not join the line
-pub ruled_push : {os us : List Order} {l : List ℕ} {j : ℕ} (o : Order) → us ≡ os ++ o ∷ [] → o.number ≡ suc (length os) → length os < 512 → Ruled os l j → Ruled us l j
-ruled_push {os} {us} {l} {j} o e n h r =
+pub ruled_push : {os us : List Order} {l : List ℕ} (o : Order) → us ≡ os ++ o ∷ [] → o.number ≡ suc (length os) → length os < 512 → Ruled os l → Ruled us l
+ruled_push {os} {us} {l} o e n h r =
     let long : length (os ++ o ∷ []) ≡ suc (length os) = length_push os o in
-    subst (λ x. Ruled x l j) (sym e) (record {
+    subst (λ x. Ruled x l) (sym e) (record {
       numbered = numbered_push 1 os o r.numbered (omega arith);
       few = omega arith;
       waits = all_map (Waits os) (Waits (os ++ o ∷ [])) l (waits_push os o) r.waits;
@@ -104,26 +86,20 @@ ruled_push {os} {us} {l} {j} o e n h r =
     })
 
 -- it stands last in line
-pub ruled_last : {os us : List Order} {l l' : List ℕ} {j j' n : ℕ} (o : Order) → us ≡ os ++ o ∷ [] → o.number ≡ suc (length os) → length os < 512 → is_loose o.place ≡ true
-    → n ≡ suc (length os) → l' ≡ l ++ n ∷ [] → j' ≡ j + 1 → Ruled os l j → Ruled us l' j'
-ruled_last {os} {us} {l} {l'} {j} {j'} {n} o e num h loose is into more r =
+pub ruled_last : {os us : List Order} {l l' : List ℕ} {n : ℕ} (o : Order) → us ≡ os ++ o ∷ [] → o.number ≡ suc (length os) → length os < 512 → is_loose o.place ≡ true
+    → n ≡ suc (length os) → l' ≡ l ++ n ∷ [] → Ruled os l → Ruled us l'
+ruled_last {os} {us} {l} {l'} {n} o e num h loose is into r =
     let vs : List Order = os ++ o ∷ [] in
     let long : length (os ++ o ∷ []) ≡ suc (length os) = length_push os o in
     let same : o.number ≡ n = num ∙ sym is in
-    subst (λ x. Ruled x l' j') (sym e) (subst (λ x. Ruled vs x j') (sym into) (record {
+    subst (λ x. Ruled x l') (sym e) (subst (Ruled vs) (sym into) (record {
       numbered = numbered_push 1 os o r.numbered (omega arith);
       few = omega arith;
       waits = all_push (Waits vs) l n (all_map (Waits os) (Waits vs) l (waits_push os o) r.waits)
           (subst (Waits vs) same (ap loose_of (look_last 1 os o r.numbered (omega arith)) ∙ loose));
       once = once_push n l (all_map (Waits os) (λ m. m ≡ n → ⊥) l (λ m w i. not_yet 1 os n r.numbered (omega arith) (subst (Waits os) i w)) r.waits) r.once;
-      room = omega (arith, more, filed_push os o, loose_none o.place loose, r.room);
+      room = omega (arith, length_push l n, filed_push os o, loose_none o.place loose, r.room);
     }))
 
 pub line_more : {l l' m : List ℕ} {n k : ℕ} (w : Place) → l' ≡ l ++ n ∷ [] → w ≡ Line → n ≡ k → l ≡ m → l' ≡ line_with w k m
 line_more {m = m} {k = k} w e is a b = e ∙ (λ i. b i ++ a i ∷ []) ∙ ap (λ x. line_with x k m) (sym is)
-
-pub line_same : (k : ℕ) {l m : List ℕ} (w : Place) → (w ≡ Line → ⊥) → l ≡ m → l ≡ line_with w k m
-line_same k Nowhere ne e = e
-line_same k Book ne e = e
-line_same k Line ne e = absurd (ne refl)
-line_same k StopFile ne e = e

@@ -85,24 +85,27 @@ module _ (b : Board) {ss : List Stop} (fl : Filed ss b) {n : ℕ} (ne : n ≡ le
       → refusal (cs ++ check (is_stop k && leb m n) stop_file_full ∷ []) ≡ refusal (cs ++ check (is_stop k && leb room (filed (orders_of b))) stop_file_full ∷ [])
   checks_stop room {m} me cs k = ap (λ x. refusal (cs ++ check (is_stop k && leb m x) stop_file_full ∷ [])) counted ∙ ap (λ x. refusal (cs ++ check (is_stop k && leb x (filed (orders_of b))) stop_file_full ∷ [])) me
 
-  pub checks_enter : (f : Phase) (room : ℕ) {m : ℕ} → m ≡ room → (free : ℕ) (cs : List Check) (k : Kind)
-      → refusal (cs ++ check (is_stop k && leb m n) stop_file_full ∷ check (ltb free (4 * (length (waiting_of b) + n + 1))) tape_short ∷ [])
+  pub checks_enter : (f : Phase) (room : ℕ) {m : ℕ} → m ≡ room → (free : ℕ) {x : ℕ} → x ≡ free → (cs : List Check) (k : Kind)
+      → refusal (cs ++ check (is_stop k && leb m n) stop_file_full ∷ check (ltb x (4 * (length (waiting_of b) + n + 1))) tape_short ∷ [])
       ≡ refusal (cs ++ check (is_stop k && leb room (filed (orders_of b))) stop_file_full ∷ check (ltb free (4 * (busy (day_of f b) + 1))) tape_short ∷ [])
   unfolding busy
-  checks_enter f room {m} me free cs k =
-      ap (λ x. refusal (cs ++ check (is_stop k && leb m x) stop_file_full ∷ check (ltb free (4 * (length (waiting_of b) + x + 1))) tape_short ∷ [])) counted
+  checks_enter f room {m} me free xe cs k =
+      ap (λ y. refusal (cs ++ check (is_stop k && leb m n) stop_file_full ∷ check (ltb y (4 * (length (waiting_of b) + n + 1))) tape_short ∷ [])) xe
+      ∙ ap (λ x. refusal (cs ++ check (is_stop k && leb m x) stop_file_full ∷ check (ltb free (4 * (length (waiting_of b) + x + 1))) tape_short ∷ [])) counted
       ∙ ap (λ x. refusal (cs ++ check (is_stop k && leb x (filed (orders_of b))) stop_file_full ∷ check (ltb free (4 * (length (waiting_of b) + filed (orders_of b) + 1))) tape_short ∷ [])) me
 
-  pub checks_floor : (f : Phase) (p q free : ℕ)
-      → refusal (check (not (is_price p)) bad_price ∷ check (not (is_shares q)) bad_shares ∷ check (outside p (orders_of b)) outside_quote ∷ check (ltb free (suc (4 * (length (waiting_of b) + n + 0)))) tape_short ∷ [])
+  pub checks_floor : (f : Phase) (p q free : ℕ) {x : ℕ} → x ≡ free
+      → refusal (check (not (is_price p)) bad_price ∷ check (not (is_shares q)) bad_shares ∷ check (outside p (orders_of b)) outside_quote ∷ check (ltb x (suc (4 * (length (waiting_of b) + n + 0)))) tape_short ∷ [])
       ≡ refusal (check (not (is_price p)) bad_price ∷ check (not (is_shares q)) bad_shares ∷ check (outside p (orders_of b)) outside_quote ∷ check (ltb free (suc (4 * (busy (day_of f b) + 0)))) tape_short ∷ [])
   unfolding busy
-  checks_floor f p q free = ap (λ x. refusal (check (not (is_price p)) bad_price ∷ check (not (is_shares q)) bad_shares ∷ check (outside p (orders_of b)) outside_quote ∷ check (ltb free (suc (4 * (length (waiting_of b) + x + 0)))) tape_short ∷ [])) counted
+  checks_floor f p q free xe =
+      ap (λ y. refusal (check (not (is_price p)) bad_price ∷ check (not (is_shares q)) bad_shares ∷ check (outside p (orders_of b)) outside_quote ∷ check (ltb y (suc (4 * (length (waiting_of b) + n + 0)))) tape_short ∷ [])) xe
+      ∙ ap (λ x. refusal (check (not (is_price p)) bad_price ∷ check (not (is_shares q)) bad_shares ∷ check (outside p (orders_of b)) outside_quote ∷ check (ltb free (suc (4 * (length (waiting_of b) + x + 0)))) tape_short ∷ [])) counted
 
-  pub checks_resume : (f : Phase) (free : ℕ)
-      → refusal (check (not b.paused) not_paused ∷ check (ltb free (4 * (length (waiting_of b) + n + 0))) tape_short ∷ []) ≡ refusal (check (not b.paused) not_paused ∷ check (ltb free (4 * (busy (day_of f b) + 0))) tape_short ∷ [])
+  pub checks_resume : (f : Phase) (free : ℕ) {x : ℕ} → x ≡ free
+      → refusal (check (not b.paused) not_paused ∷ check (ltb x (4 * (length (waiting_of b) + n + 0))) tape_short ∷ []) ≡ refusal (check (not b.paused) not_paused ∷ check (ltb free (4 * (busy (day_of f b) + 0))) tape_short ∷ [])
   unfolding busy
-  checks_resume f free = ap (λ x. refusal (check (not b.paused) not_paused ∷ check (ltb free (4 * (length (waiting_of b) + x + 0))) tape_short ∷ [])) counted
+  checks_resume f free xe = ap (λ y. refusal (check (not b.paused) not_paused ∷ check (ltb y (4 * (length (waiting_of b) + n + 0))) tape_short ∷ [])) xe ∙ ap (λ x. refusal (check (not b.paused) not_paused ∷ check (ltb free (4 * (length (waiting_of b) + x + 0))) tape_short ∷ [])) counted
 
 -- what passed ------------------------------------------------------------------------------------------------------------
 -- a stop that passed finds a place
@@ -157,11 +160,3 @@ cancel_passed a b c free h =
     let x = refusal_none (check a no_such_order ∷ check b other_member ∷ check c nothing_open ∷ check (eqb free 0) tape_short ∷ []) (sym h) in
     let ne : free ≡ 0 → ⊥ = eqb-false free 0 x.1.1.1.0 in
     omega arith
-
-pub floor_passed : (a b c : Bool) (free need : ℕ) → None ≡ refusal (check a bad_price ∷ check b bad_shares ∷ check c outside_quote ∷ check (ltb free need) tape_short ∷ []) → need ≤ free
-floor_passed a b c free need h =
-    let x = refusal_none (check a bad_price ∷ check b bad_shares ∷ check c outside_quote ∷ check (ltb free need) tape_short ∷ []) (sym h) in
-    ltb-false free need x.1.1.1.0
-
-pub resume_passed : (a : Bool) (free need : ℕ) → None ≡ refusal (check a not_paused ∷ check (ltb free need) tape_short ∷ []) → need ≤ free
-resume_passed a free need h = let x = refusal_none (check a not_paused ∷ check (ltb free need) tape_short ∷ []) (sym h) in ltb-false free need x.1.0

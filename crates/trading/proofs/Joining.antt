@@ -1,5 +1,5 @@
 -- An order comes in.
-use Rattle.std.proofs.Common.{◌≡◌, ℕ, suc, ◌+◌, ◌*◌, ◌≤◌, Bool, true, false, ◌⊎◌, List, [], ◌∷◌, ◌++◌, length, sym, refl, ap, ◌∙◌, inl, inr, arith}
+use Rattle.std.proofs.Common.{◌≡◌, suc, Bool, true, false, ◌⊎◌, List, [], ◌∷◌, ◌++◌, length, sym, refl, ap, ◌∙◌, inl, inr, arith}
 use Rattle.market.specs.declared.words.Kind.{Kind}
 use Rattle.market.specs.declared.words.Kind.TheVariants.{Limit, Market, ImmediateOrCancel, Stop}
 use Rattle.market.specs.declared.words.Place.{Place}
@@ -13,12 +13,10 @@ use Rattle.replay.specs.Days.{Day, Rule}
 use Rattle.replay.specs.Rolls.{is_filed, alter}
 use Rattle.replay.specs.Book.{is_contra}
 use Rattle.replay.specs.RollHolds.{Numbered}
-use Rattle.replay.specs.Moves.{withdraw, line_with, admit}
+use Rattle.replay.specs.Moves.{withdraw, admit}
 use Rattle.replay.specs.Runs.{work, start_place, join_of, join}
 use Rattle.replay.specs.StopFile.{file_of}
 use Rattle.replay.proofs.FileOfRoll.{file_alter}
-use Rattle.replay.proofs.Lists.{length_push}
-use Rattle.trading.specs.Deeds.{may_add}
 use Rattle.trading.specs.Shows.{filed_of}
 use Rattle.trading.proofs.Admitting.{next_number, next_kind, look_last}
 
@@ -65,11 +63,3 @@ away_file t d num e =
     let o : Order = next t d.roll in
     ap (λ k. file_of (d.roll ++ put (start_place k (any (is_contra o) d.roll)) o ∷ [])) e
     ∙ sym (last_cancelled d.roll (put Line o) num (next_number t d.roll) refl)
-
--- who joins the line has its lines
-pub line_fits : (k : Kind) (t : Bool) (n : ℕ) (l : List ℕ) → 3 * length (line_with (start_place k t) n l) ≤ may_add k + 3 * length l
-line_fits Limit true n l = omega (arith, length_push l n)
-line_fits Limit false n l = omega arith
-line_fits Market t n l = omega (arith, length_push l n)
-line_fits ImmediateOrCancel t n l = omega (arith, length_push l n)
-line_fits Stop t n l = omega arith

@@ -1,13 +1,12 @@
 pub mod Admitting
+pub mod Comparing
 pub mod Days
 pub mod Doing
 pub mod Electing
 pub mod Joining
 pub mod Prices
 pub mod Queue
-pub mod Refusing
 pub mod Removing
-pub mod Residuals
 pub mod Ruled
 pub mod Running
 pub mod Taking

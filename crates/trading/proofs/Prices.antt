@@ -12,20 +12,13 @@ use Rattle.orderbook.specs.Trades.{first_in, clean_in}
 use Rattle.replay.specs.Lists.{those, kept}
 use Rattle.replay.specs.Days.{Day, Phase, Rule}
 use Rattle.replay.specs.Rolls.{left}
-use Rattle.replay.specs.Book.{depth, prices, pick, best, is_contra, is_reached}
+use Rattle.replay.specs.Book.{depth, prices, best, is_contra, is_reached}
 use Rattle.replay.specs.Runs.{or, first_price, clean_up, if_left, next_price, print_at}
+use Rattle.replay.proofs.Prices.{best_none}
 use Rattle.trading.specs.declared.board.Board.{Board}
 use Rattle.trading.specs.Shows.{Shows, Printed, second_price}
 
--- nobody there -----------------------------------------------------------------------------------------------------------
-best_none : (c : Side) (ps : List ℕ) → best c ps ≡ None → ps ≡ []
-best_none c [] e = refl
-best_none c (p ∷ ps) e = absurd (go (best c ps) e)
-  where
-    go : (x : Option ℕ) → pick c p x ≡ None → ⊥
-    go None e = let z : ◌≡◌ {A = ℕ} 0 1 = cc in omega arith
-    go (Some q) e = let z : ◌≡◌ {A = ℕ} 0 1 = cc in omega arith
-
+-- the second price: there is none where nobody is there -----------------------------------------------------------------
 none_pass : (t t' : Order → Bool) → ((o : Order) → t' o ≡ true → t o ≡ true) → (os : List Order) → prices t os ≡ [] → prices t' os ≡ []
 unfolding prices
 none_pass t t' h [] e = refl
@@ -44,7 +37,6 @@ clean_none r g os e =
     none_pass (rests_on c) (is_reached r g) (λ o h. (and_parts (rests_on c o) (in_limit r o.price) (and_parts (is_contra r o) (in_range g o.price) h).0).0) os (best_none c _ (sym e)) in
     ap (λ ps. or (best c (those (λ p. leb (left r.number os) (depth c p os)) ps)) (best (opposite c) ps)) none
 
--- the second price -------------------------------------------------------------------------------------------------------
 pub clean_is : (r : Order) {g : Option Range} {os : List Order} (d : Day) → g ≡ d.range → os ≡ d.roll → clean_in r g os ≡ clean_up r d
 unfolding clean_up
 clean_is r {g} {os} d e h = ap (λ x. clean_in r x os) e ∙ ap (clean_in r d.range) h

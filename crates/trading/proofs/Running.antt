@@ -1,7 +1,5 @@
 -- A run leaves the stop file of the roll alone until it elects, and takes the first out of the line or pauses.
-use Rattle.std.proofs.Common.{◌≡◌, ℕ, zero, suc, ◌-◌, ◌<◌, ◌≤◌, Bool, true, false, cond, not, eqb, ◌⊎◌, List, [], ◌∷◌, length, Some, None, Option, sym, refl, ap, ◌∙◌, subst, arith}
-use mathlib.Core.Logic.{∥∥₁_elim}
-use base.Stored.{Coded-set, coded_bool}
+use Rattle.std.proofs.Common.{◌≡◌, ℕ, zero, suc, ◌-◌, ◌<◌, Bool, true, false, not, ◌⊎◌, List, [], ◌∷◌, length, Some, None, Option, sym, refl, ap, ◌∙◌, subst, arith}
 use Rattle.std.specs.List.{AllByRecursion}
 use Rattle.std.proofs.lemmas.Bool.{false≢true}
 use Rattle.market.specs.declared.words.Side.{Side}
@@ -32,20 +30,17 @@ use Rattle.trading.specs.Waiting.{first_of}
 use Rattle.trading.specs.Ruling.{is_loose, loose_of, Waits, Ruled}
 use Rattle.trading.specs.Boards.{orders_of, waiting_of}
 use Rattle.trading.specs.Shows.{Shows, Runner, second_price, printed}
+use Rattle.trading.proofs.Ruled.{ruled, loose_fill}
 
 -- the first in line ------------------------------------------------------------------------------------------------------
 first_waits : (P : ℕ → Type 0) (l : List ℕ) (n : ℕ) → first_of l ≡ Some n → AllByRecursion P l → P n
 first_waits P [] n e a = absurd (let z : ◌≡◌ {A = ℕ} 0 1 = cc in omega arith)
 first_waits P (m ∷ l) n e a = let z : m ≡ n = cc in subst P z a.0
 
-pub waits_of : {os : List Order} {l : List ℕ} {j : ℕ} {n : ℕ} → ∥ Ruled os l j ∥₁ → first_of l ≡ Some n → Waits os n
-waits_of {os} {l} {j} {n} x e = ∥∥₁_elim x (Coded-set coded_bool (loose_of (look n os)) true) (λ r. first_waits (Waits os) l n e r.waits)
+pub waits_of : {os : List Order} {l : List ℕ} {n : ℕ} → ∥ Ruled os l ∥₁ → first_of l ≡ Some n → Waits os n
+waits_of {os} {l} {n} x e = first_waits (Waits os) l n e (ruled x).waits
 
-pub first_long : (l : List ℕ) (n : ℕ) → first_of l ≡ Some n → 1 ≤ length l
-first_long [] n e = absurd (let z : ◌≡◌ {A = ℕ} 0 1 = cc in omega arith)
-first_long (m ∷ l) n e = omega arith
-
-first_is_lem : (l : List ℕ) (n : ℕ) → first_of l ≡ Some n → (ns : List ℕ) × (l ≡ n ∷ ns)
+pub first_is_lem : (l : List ℕ) (n : ℕ) → first_of l ≡ Some n → (ns : List ℕ) × (l ≡ n ∷ ns)
 first_is_lem [] n e = absurd (let z : ◌≡◌ {A = ℕ} 0 1 = cc in omega arith)
 first_is_lem (m ∷ l) n e = let z : m ≡ n = cc in (l, ap (λ k. k ∷ l) z)
 
@@ -61,13 +56,6 @@ loose_unfiled Nowhere e = refl
 loose_unfiled Book e = refl
 loose_unfiled Line e = refl
 loose_unfiled StopFile e = absurd (false≢true e)
-
-fill_loose : (q : ℕ) (o : Order) → is_loose o.place ≡ true → is_loose (fill q o).place ≡ true
-fill_loose q o e = go (eqb (o.«open» - q) 0)
-  where
-    go : (b : Bool) → is_loose (cond b Nowhere o.place) ≡ true
-    go true = refl
-    go false = e
 
 found_loose : (n : ℕ) (os : List Order) (o : Order) → Waits os n → look n os ≡ Some o → is_loose o.place ≡ true
 found_loose n os o w e = ap loose_of (sym e) ∙ w
@@ -99,7 +87,7 @@ module _ (gifts : Rule) where
   fill_waits : (n q : ℕ) (os : List Order) → Waits os n → Waits (alter n (fill q) os) n
   fill_waits n q os w =
       let x : (o : Order) × (look n os ≡ Some o) = the_loose os n w in
-      ap loose_of (look_same n (fill q) os x.0 (λ o. refl) x.1) ∙ fill_loose q x.0 (found_loose n os x.0 w x.1)
+      ap loose_of (look_same n (fill q) os x.0 (λ o. refl) x.1) ∙ loose_fill q x.0 (found_loose n os x.0 w x.1)
 
   trade_waits : (n : ℕ) (c : Side) (p : ℕ) (d : Day) → Waits d.roll n → Waits (trade gifts n c p d).roll n
   unfolding trade
@@ -115,7 +103,7 @@ module _ (gifts : Rule) where
       let os : List Order = d.roll in
       let q : ℕ = size n c p os in
       let gs : List ℕ = gifts (row c p os) (q - ahead c p os) in
-      alter_file n (fill q) (deal c p os gs) (deal_waits n c p os gs w) (λ o l. loose_unfiled (fill q o).place (fill_loose q o l)) ∙ file_deal c p os gs
+      alter_file n (fill q) (deal c p os gs) (deal_waits n c p os gs w) (λ o l. loose_unfiled (fill q o).place (loose_fill q o l)) ∙ file_deal c p os gs
 
   print_waits : (r : Order) (x : Option ℕ) (d : Day) → Waits d.roll r.number → Waits (print_at gifts r x d).roll r.number
   print_waits r None d w = w

@@ -1,7 +1,5 @@
 -- The loop that takes from the stop file until nothing is elected.
-use Rattle.std.proofs.Common.{◌≡◌, ℕ, suc, ◌+◌, ◌≤◌, Bool, true, false, cond, List, [], ◌∷◌, ◌++◌, length, Some, None, sym, refl, ap, ◌∙◌, subst, arith}
-use mathlib.Core.Logic.{∥∥₁_elim}
-use base.Stored.{Coded-set, coded_ℕ}
+use Rattle.std.proofs.Common.{◌≡◌, ℕ, suc, ◌+◌, ◌≤◌, Bool, true, false, cond, List, [], ◌∷◌, ◌++◌, length, Some, None, sym, ap, ◌∙◌, subst, arith}
 use Rattle.std.proofs.lemmas.Bool.{false≢true}
 use Rattle.market.specs.declared.words.Place.TheVariants.{Line}
 use Rattle.market.specs.declared.words.Stop.{Stop}
@@ -20,15 +18,12 @@ use Rattle.trading.specs.declared.board.Board.{Board}
 use Rattle.trading.specs.Ruling.{Ruled}
 use Rattle.trading.specs.Boards.{orders_of, waiting_of}
 use Rattle.trading.specs.Shows.{Shows, Beside, filed_of, may_print}
+use Rattle.trading.proofs.Ruled.{ruled}
 use Rattle.trading.proofs.Electing.{Called, one_called, none_called, elect_one, elect_more, elect_none, one_fewer}
 
 -- the orders of a board are numbered in turn
-numbered_prop : (k : ℕ) (os : List Order) → IsProp (Numbered k os)
-numbered_prop k [] p q = refl
-numbered_prop k (o ∷ os) p q = λ i. (Coded-set coded_ℕ o.number k p.0 q.0 i, numbered_prop (suc k) os p.1 q.1 i)
-
-pub numbered_of : {os : List Order} {l : List ℕ} {j : ℕ} → ∥ Ruled os l j ∥₁ → Numbered 1 os
-numbered_of {os} {l} {j} x = ∥∥₁_elim x (numbered_prop 1 os) (λ r. r.numbered)
+pub numbered_of : {os : List Order} {l : List ℕ} → ∥ Ruled os l ∥₁ → Numbered 1 os
+numbered_of x = (ruled x).numbered
 
 -- what is left to elect, from a board, a file and lines as they were, to those now
 pub record Electing (p : ℕ) (b₀ : Board) (ss₀ : List Stop) (ls₀ : List TapeLine) (b : Board) (ss : List Stop) (ls : List TapeLine) : Type 0 where
@@ -37,16 +32,9 @@ pub record Electing (p : ℕ) (b₀ : Board) (ss₀ : List Stop) (ls₀ : List T
 
 -- lines and stops
 pub record Spent (used₀ : ℕ) (b₀ : Board) (ss₀ : List Stop) (used : ℕ) (b : Board) (ss : List Stop) : Type 0 where
-  pub low : used₀ ≤ used
   pub high : used + length ss ≤ used₀ + length ss₀
   pub bound : used + may_print b ss ≤ used₀ + may_print b₀ ss₀
   pub few : length (waiting_of b) + length ss ≤ length (waiting_of b₀) + length ss₀
-
-pub electing_none : (p : ℕ) (b : Board) (ss : List Stop) (ls : List TapeLine) → Electing p b ss ls b ss ls
-electing_none p b ss ls = record { carry = λ f d s e. (d, s, e, refl); beside = record { paused = refl; range = refl; last = refl; class = refl; column = refl } }
-
-pub spent_none : (used : ℕ) (b : Board) (ss : List Stop) → Spent used b ss used b ss
-spent_none used b ss = record { low = omega arith; high = omega arith; bound = omega arith; few = omega arith }
 
 beside_trans : {a b c : Board} → Beside a b → Beside b c → Beside a c
 beside_trans x y = record { paused = y.paused ∙ x.paused; range = y.range ∙ x.range; last = y.last ∙ x.last; class = y.class ∙ x.class; column = y.column ∙ x.column }
@@ -101,12 +89,12 @@ module _ {p : ℕ} {b₀ : Board} {ss₀ : List Stop} {ls₀ : List TapeLine} {b
   spent_more {used₀} {used} t x =
       let l : length (waiting_of b') ≡ length (waiting_of b ++ s.number ∷ []) = ap length (line ∙ ap (λ c. cond c (waiting_of b ++ s.number ∷ []) (waiting_of b)) t) in
       let m : length (waiting_of b ++ s.number ∷ []) ≡ suc (length (waiting_of b)) = length_push (waiting_of b) s.number in
-      record { low = omega (arith, x.low); high = omega (arith, x.high, fewer); bound = omega (arith, x.bound, fewer, l, m); few = omega (arith, x.few, fewer, l, m) }
+      record { high = omega (arith, x.high, fewer); bound = omega (arith, x.bound, fewer, l, m); few = omega (arith, x.few, fewer, l, m) }
 
   pub spent_past : {used₀ used : ℕ} → r ≡ false → Spent used₀ b₀ ss₀ used b ss → Spent used₀ b₀ ss₀ used b' ss'
   spent_past {used₀} {used} t x =
       let l : length (waiting_of b') ≡ length (waiting_of b) = ap length (line ∙ ap (λ c. cond c (waiting_of b ++ s.number ∷ []) (waiting_of b)) t) in
-      record { low = x.low; high = omega (arith, x.high, fewer); bound = omega (arith, x.bound, fewer, l); few = omega (arith, x.few, fewer, l) }
+      record { high = omega (arith, x.high, fewer); bound = omega (arith, x.bound, fewer, l); few = omega (arith, x.few, fewer, l) }
 
 -- nothing is elected any more
 pub electing_done : {p : ℕ} {b₀ : Board} {ss₀ : List Stop} {ls₀ : List TapeLine} {b : Board} {ss : List Stop} {ls : List TapeLine} {ss' : List Stop} → Electing p b₀ ss₀ ls₀ b ss ls → None ≡ first_by (elects p) ss → ss' ≡ ss

@@ -23,10 +23,6 @@ pub traded_is : (gifts : Rule) (p : ℕ) {os us : List Order} {r : Order} → us
     → Runner os r → us ≡ traded gifts r.number (opposite r.side) p os
 traded_is gifts p {os} {us} {r} e k = chosen _ (traded gifts r.number (contra_of (look r.number os)) p os) os e k.off ∙ ap (λ c. traded gifts r.number c p os) k.contra
 
-pub size_is : (p : ℕ) {os : List Order} {q : ℕ} {r : Order} → q ≡ cond (is_off (look r.number os)) (size r.number (contra_of (look r.number os)) p os) 0
-    → Runner os r → q ≡ size r.number (opposite r.side) p os
-size_is p {os} {q} {r} e k = chosen _ (size r.number (contra_of (look r.number os)) p os) 0 e k.off ∙ ap (λ c. size r.number c p os) k.contra
-
 not_book : (b : Bool) → not b ≡ true → b ≡ false
 not_book true e = sym e
 not_book false e = refl
@@ -66,6 +62,3 @@ filed_off (Some o) e = go o.place e
     go Book e = absurd (false≢true e)
     go Line e = refl
     go StopFile e = refl
-
-pub filed_is : {x : Option Order} {o : Order} → x ≡ Some o → o.place ≡ StopFile → filed_of x ≡ true
-filed_is e h = ap filed_of e ∙ ap is_filed h

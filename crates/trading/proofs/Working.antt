@@ -1,5 +1,5 @@
 -- The loop that works off the line.
-use Rattle.std.proofs.Common.{◌≡◌, ℕ, zero, suc, ◌<◌, ◌≤◌, Bool, true, false, cond, ◌⊎◌, List, [], ◌∷◌, length, Some, None, Option, sym, refl, ap, ◌∙◌, subst, inl, inr, ⊎_elim, arith}
+use Rattle.std.proofs.Common.{◌≡◌, ℕ, zero, suc, ◌≤◌, Bool, true, false, ◌⊎◌, List, [], ◌∷◌, length, Some, None, Option, sym, refl, ap, ◌∙◌, subst, inl, inr, ⊎_elim, arith}
 use Rattle.std.proofs.lemmas.Bool.{false≢true}
 use Rattle.market.specs.declared.words.Stop.{Stop}
 use Rattle.market.specs.declared.words.Order.{Order}
@@ -15,6 +15,7 @@ use Rattle.trading.specs.declared.board.Board.{Board}
 use Rattle.trading.specs.Waiting.{first_of}
 use Rattle.trading.specs.Boards.{waiting_of}
 use Rattle.trading.specs.Shows.{Shows, up_next}
+use Rattle.trading.proofs.Running.{first_is_lem}
 
 -- a day to which so many turns more make what working off the line was to make
 pub record Turning (gifts : Rule) (whole : Day) (f : Phase) (b : Board) (ss : List Stop) (ls : List TapeLine) : Type 0 where
@@ -41,10 +42,6 @@ up_first p ns n e = (up_running p ns n e).1
 
 pub up_runs : (p : Bool) (ns : List ℕ) (n : ℕ) → Some n ≡ up_next p ns → p ≡ false
 up_runs p ns n e = (up_running p ns n e).0
-
-first_is_lem : (l : List ℕ) (n : ℕ) → first_of l ≡ Some n → (ns : List ℕ) × (l ≡ n ∷ ns)
-first_is_lem [] n e = absurd (let z : ◌≡◌ {A = ℕ} 0 1 = cc in omega arith)
-first_is_lem (m ∷ l) n e = let z : m ≡ n = cc in (l, ap (λ k. k ∷ l) z)
 
 module _ (gifts : Rule) where
   -- a turn with somebody in line
@@ -109,11 +106,3 @@ module _ (gifts : Rule) where
       (still b.paused (waiting_of b) up)
       ∙ t.same in
       subst (λ (x : Day). Shows f b ls x × (ss ≡ file_of x.roll)) end (t.shows, t.file)
-
--- what a turn leaves to be done
-pub fewer : (p p' : Bool) (m m' : ℕ) → p ≡ false → (p' ≡ true) ⊎ (m' < m) → cond p' 0 m' < cond p 0 m ⊎ (m ≡ 0)
-fewer true p' m m' e h = absurd (false≢true (sym e))
-fewer false true zero m' e h = inr refl
-fewer false true (suc m) m' e h = inl (omega arith)
-fewer false false m m' e (inl h) = absurd (false≢true h)
-fewer false false m m' e (inr h) = inl h

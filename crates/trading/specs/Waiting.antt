@@ -1,11 +1,10 @@
 -- The line of waiting orders. Assumes nothing.
-use Rattle.std.specs.Prelude.{◌≡◌, ℕ, false, List, [], ◌∷◌, take, drop, Some, None, Option, ◌==◌}
+use Rattle.std.specs.Prelude.{◌≡◌, ℕ, false, List, [], ◌∷◌, Some, None, Option, ◌==◌}
 use Rattle.std.specs.List.{AllByRecursion}
 use Rattle.trading.specs.declared.line.Line.{Line}
 
--- those between the ones that have gone and the free slots
 abbrev pub line_of : Line → List ℕ
-line_of l = drop l.gone (take l.joined l.numbers)
+line_of l = l.numbers.items
 
 abbrev pub first_of : List ℕ → Option ℕ
 first_of [] = None

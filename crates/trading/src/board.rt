@@ -15,6 +15,7 @@ mod prints;
 mod questions;
 mod runs;
 mod settling;
+pub(crate) mod tape;
 
 #[derive(Drop)]
 pub struct Board {
@@ -22,9 +23,10 @@ pub struct Board {
     line: Line,
     paused: bool,
     range: Option<Range>,
-    // 0 for none
+    // 0 for none, as the call that sets it gives it and range_around takes it: an Option would be made of it and unmade again
     last_sale: u32,
+    // A number, as in every definition. Class, column and last sale are no struct: each print sets the last sale alone.
     class: u32,
     column: Column,
-    ghost ruled: { ∥ Ruled (roll_of book) (line_of line) line.joined ∥₁ },
+    ghost ruled: { ∥ Ruled (roll_of book) (line_of line) ∥₁ },
 }

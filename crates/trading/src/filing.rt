@@ -33,8 +33,5 @@ fn add_stop<F: StopFile>(file: &mut F, stop: Stop) -> Result<(), Refusal>
     ensures listed { F.StopFile.stops file.new ≡ after_adding (adding (F.StopFile.room file.old) stop (F.StopFile.stops file.old)) stop (F.StopFile.stops file.old) }
     ensures keeps { F.StopFile.room file.new ≡ F.StopFile.room file.old }
 {
-    match file.add(stop) {
-        Ok(()) => Ok(()),
-        Err(_) => Err(Refusal::StopFileFull),
-    }
+    file.add(stop).map_err(|_| Refusal::StopFileFull)
 }

@@ -1,5 +1,5 @@
-// What the calls of a day do to a book.
-ghost use Rattle.std.specs.Prelude.{◌≡◌, suc, false, [], ◌∷◌, ◌++◌, length, if◌then◌else◌, Some, None};
+// What the calls of a day do to a book. The tables of the two sides differ in type, so that each match on a side names both.
+ghost use Rattle.std.specs.Prelude.{◌≡◌, suc, [], ◌∷◌, ◌++◌, length, cond, if◌then◌else◌, Some, None};
 ghost use Rattle.market.specs.Orders.{cancel, put};
 ghost use Rattle.replay.specs.Rolls.{look, alter, left};
 ghost use Rattle.replay.specs.Moves.{size};
@@ -7,11 +7,15 @@ ghost use Rattle.orderbook.specs.Books.{roll_of};
 ghost use Rattle.orderbook.specs.Trades.{traded, is_off, contra_of, moved, next, admits};
 
 use crate::book::Book;
+use crate::deal::trade;
+use crate::numbers::change_order;
+use crate::tables::{rest_on, retain};
 use crate::ticket::Ticket;
+use arrayvec::ArrayVec;
 use market::bounds::{MOST_SHARES, ROLL};
+use market::change::Change;
 use market::roll::Roll;
-use market::side::{Bids, Offers, Resting};
-use market::words::{Place, Side};
+use market::words::{Order, Place, Side};
 use sharing::rule::ShareOut;
 
 impl Book {
@@ -21,18 +25,8 @@ impl Book {
     {
         Book {
             roll: Roll::new(),
-            bids: [Resting {
-                price: 0,
-                number: 0,
-                side: Bids,
-            }; 512],
-            bidding: 0,
-            offers: [Resting {
-                price: 0,
-                number: 0,
-                side: Offers,
-            }; 512],
-            offering: 0,
+            bids: ArrayVec::new(),
+            offers: ArrayVec::new(),
         }
     }
 
@@ -50,24 +44,28 @@ impl Book {
         Some(number)
     }
 
+    // The order of a number, if there is one and it is not on the book.
+    fn off_book(&self, number: u32) -> Option<Order>
+        ensures { result ≡ cond (is_off (look number (roll_of self.now))) (look number (roll_of self.now)) None }
+    {
+        self.get(number).filter(|order| order.place != Place::Book)
+    }
+
     // Puts the open shares of an order that is not on the book elsewhere. Any other order stays as it is.
     pub fn put(&mut self, number: u32, place: Place)
         ensures { roll_of self.new ≡ moved place number (roll_of self.old) }
     {
-        let Some(order) = self.get(number) else {
+        let Some(order) = self.off_book(number) else {
             return;
         };
-        if order.place == Place::Book {
-            return;
-        }
         match place {
             Place::Nowhere => {}
             Place::Book => match order.side {
-                Side::Buy => self.rest_bid(number),
-                Side::Sell => self.rest_offer(number),
+                Side::Buy => rest_on(&mut self.roll, &mut self.bids, number),
+                Side::Sell => rest_on(&mut self.roll, &mut self.offers, number),
             },
-            Place::Line => self.wait(number),
-            Place::StopFile => self.file(number),
+            Place::Line => change_order(&mut self.roll, number, Change::Wait),
+            Place::StopFile => change_order(&mut self.roll, number, Change::File),
         }
     }
 
@@ -77,15 +75,12 @@ impl Book {
         ensures shares { result ≡ (if is_off (look number (roll_of self.old)) then size number (contra_of (look number (roll_of self.old))) price (roll_of self.old) else 0) }
         ensures roll { roll_of self.new ≡ (if is_off (look number (roll_of self.old)) then traded (R.ShareOut.gifts rule.now) number (contra_of (look number (roll_of self.old))) price (roll_of self.old) else roll_of self.old) }
     {
-        let Some(order) = self.get(number) else {
+        let Some(order) = self.off_book(number) else {
             return 0;
         };
-        if order.place == Place::Book {
-            return 0;
-        }
         match order.side {
-            Side::Buy => self.take_offers(rule, number, price),
-            Side::Sell => self.take_bids(rule, number, price),
+            Side::Buy => trade(rule, &mut self.roll, &mut self.offers, number, price),
+            Side::Sell => trade(rule, &mut self.roll, &mut self.bids, number, price),
         }
     }
 
@@ -97,13 +92,12 @@ impl Book {
         let Some(order) = self.get(number) else {
             return 0;
         };
-        if order.place != Place::Book {
-            self.strike(number);
-            return order.open;
-        }
-        match order.side {
-            Side::Buy => self.strike_bid(number, order.price),
-            Side::Sell => self.strike_offer(number, order.price),
+        change_order(&mut self.roll, number, Change::Cancel);
+        if order.place == Place::Book {
+            match order.side {
+                Side::Buy => retain(&self.roll, &mut self.bids, order.price),
+                Side::Sell => retain(&self.roll, &mut self.offers, order.price),
+            }
         }
         order.open
     }

@@ -1,7 +1,7 @@
 // What may be asked of a book.
 ghost use Rattle.std.specs.Prelude.{◌≡◌, length, nat_lt};
 ghost use Rattle.market.specs.declared.words.Side.TheVariants.{Buy, Sell};
-ghost use Rattle.market.specs.Sides.{opposite};
+ghost use Rattle.market.specs.Sides.{better};
 ghost use Rattle.market.specs.Orders.{rests_on};
 ghost use Rattle.replay.specs.Lists.{any, total};
 ghost use Rattle.replay.specs.Rolls.{look, left};
@@ -13,7 +13,7 @@ ghost use Rattle.orderbook.specs.Sorted.{book, first_of, price_in};
 ghost use Rattle.orderbook.specs.Trades.{first_in, clean_in};
 
 use crate::book::Book;
-use crate::rows::{best, clean_up, level};
+use crate::rows::Rows;
 use market::side::{Bids, Offers};
 use market::words::{Order, Range, Side};
 
@@ -29,10 +29,27 @@ impl Book {
     pub fn get(&self, number: u32) -> Option<Order>
         ensures { result ≡ look number (roll_of self.now) }
     {
-        if number == 0 {
-            return None;
+        let at = (number as usize).checked_sub(1)?;
+        self.roll.get(at)
+    }
+
+    // The tables of the two sides differ in type, so that each match on a side below names both.
+    fn bids(&self) -> Rows<'_, Bids>
+        ensures { result.roll.now ≡ self.now.roll }
+    {
+        Rows {
+            roll: &self.roll,
+            rows: self.bids.as_slice(),
         }
-        self.roll.get(number as usize - 1)
+    }
+
+    fn offers(&self) -> Rows<'_, Offers>
+        ensures { result.roll.now ≡ self.now.roll }
+    {
+        Rows {
+            roll: &self.roll,
+            rows: self.offers.as_slice(),
+        }
     }
 
     // The best order of a side, if any rests there.
@@ -41,8 +58,8 @@ impl Book {
         ensures price { price_in result ≡ best side (prices (rests_on side) (roll_of self.now)) }
     {
         match side {
-            Side::Buy => best::<Bids>(&self.roll, &self.bids[0..self.bidding]),
-            Side::Sell => best::<Offers>(&self.roll, &self.offers[0..self.offering]),
+            Side::Buy => self.bids().best(),
+            Side::Sell => self.offers().best(),
         }
     }
 
@@ -51,8 +68,8 @@ impl Book {
         ensures { result ≡ total (λ n. n) (row side price (roll_of self.now)) }
     {
         match side {
-            Side::Buy => level::<Bids>(&self.roll, &self.bids[0..self.bidding], price),
-            Side::Sell => level::<Offers>(&self.roll, &self.offers[0..self.offering], price),
+            Side::Buy => self.bids().level(price),
+            Side::Sell => self.offers().level(price),
         }
     }
 
@@ -60,9 +77,7 @@ impl Book {
     pub fn quote(&self, side: Side) -> Option<(u32, u32)>
         ensures { result ≡ quote_of side (roll_of self.now) (best side (prices (rests_on side) (roll_of self.now))) }
     {
-        let Some(best) = self.best(side) else {
-            return None;
-        };
+        let best = self.best(side)?;
         Some((best.price, self.level(side, best.price)))
     }
 
@@ -70,49 +85,34 @@ impl Book {
     pub fn meets(&self, order: &Order) -> bool
         ensures { result ≡ any (is_contra order.now) (roll_of self.now) }
     {
-        let Some(best) = self.best(order.side.opposite()) else {
-            return false;
-        };
-        order.in_limit(best.price)
+        self.best(order.side.opposite())
+            .is_some_and(|best| order.in_limit(best.price))
     }
 
     // Whether a price is below the best bid or above the best offer.
     pub fn is_outside(&self, price: u32) -> bool
         ensures { result ≡ outside price (roll_of self.now) }
     {
-        self.is_below_bid(price) || self.is_above_offer(price)
+        self.is_behind(Side::Buy, price) || self.is_behind(Side::Sell, price)
     }
 
-    fn is_below_bid(&self, price: u32) -> bool
-        ensures { result ≡ resting_at (λ b. nat_lt price b) Buy (roll_of self.now) }
+    // Whether a price is worse than the best of a side.
+    fn is_behind(&self, side: Side, price: u32) -> bool
+        ensures { result ≡ resting_at (λ b. better side b price) side (roll_of self.now) }
     {
-        let Some(best) = self.best(Side::Buy) else {
-            return false;
-        };
-        price < best.price
+        self.best(side)
+            .is_some_and(|best| side.better(best.price, price))
     }
 
-    fn is_above_offer(&self, price: u32) -> bool
-        ensures { result ≡ resting_at (λ b. nat_lt b price) Sell (roll_of self.now) }
-    {
-        let Some(best) = self.best(Side::Sell) else {
-            return false;
-        };
-        best.price < price
-    }
-
-    // The price at which an order trades first: the best price of the other side, if it is within limit and range.
+    // The price at which an order trades first: the best price of the other side, if it is within limit and range. Each step of a run
+    // begins with the best contra order, by a rule of the project.
     pub fn first_price(&self, order: &Order, range: Option<Range>) -> Option<u32>
         ensures { result ≡ first_in order.now range (roll_of self.now) }
     {
         let Some(best) = self.best(order.side.opposite()) else {
             return None;
         };
-        if order.reaches(range, best.price) {
-            Some(best.price)
-        } else {
-            None
-        }
+        order.reaches(range, best.price).then_some(best.price)
     }
 
     // The price at which the sweep of what is left of an order ends, if the other side has any within limit and range.
@@ -121,20 +121,8 @@ impl Book {
     {
         let left = self.left(order.number);
         match order.side {
-            Side::Buy => clean_up::<Offers>(
-                &self.roll,
-                &self.offers[0..self.offering],
-                order,
-                range,
-                left,
-            ),
-            Side::Sell => clean_up::<Bids>(
-                &self.roll,
-                &self.bids[0..self.bidding],
-                order,
-                range,
-                left,
-            ),
+            Side::Buy => self.offers().clean_up(order, range, left),
+            Side::Sell => self.bids().clean_up(order, range, left),
         }
     }
 
@@ -142,9 +130,6 @@ impl Book {
     pub fn left(&self, number: u32) -> u32
         ensures { result ≡ left number (roll_of self.now) }
     {
-        match self.get(number) {
-            Some(order) => order.open,
-            None => 0,
-        }
+        self.get(number).map_or(0, |order| order.open)
     }
 }

@@ -21,24 +21,13 @@ impl Book {
         ensures cancelled { result.cancelled ≡ total (λ o. o.cancelled) (roll_of self.now) }
         ensures amount { result.«open» ≡ total (λ o. o.«open») (roll_of self.now) }
     {
-        let mut accepted = 0;
-        let mut filled = 0;
-        let mut cancelled = 0;
-        let mut open = 0;
-        for i in 0..self.roll.len() {
-            let Some(order) = self.roll.get(i) else {
-                break;
-            };
-            accepted += order.accepted as u64;
-            filled += order.filled as u64;
-            cancelled += order.cancelled as u64;
-            open += order.open as u64;
-        }
+        let orders = self.roll.as_slice();
+        let filled: u64 = orders.iter().map(|order| u64::from(order.filled)).sum();
         Totals {
-            accepted,
+            accepted: orders.iter().map(|order| u64::from(order.accepted)).sum(),
             printed: filled / 2,
-            cancelled,
-            open,
+            cancelled: orders.iter().map(|order| u64::from(order.cancelled)).sum(),
+            open: orders.iter().map(|order| u64::from(order.open)).sum(),
         }
     }
 }

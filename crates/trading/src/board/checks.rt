@@ -18,7 +18,8 @@ use market::refusal::Refusal;
 use market::words::{Column, Kind, Order, Stop};
 use orderbook::ticket::Ticket;
 
-// A class, a column letter and a last sale, or 0 for none; answers the column.
+// A class, a column letter and a last sale, or 0 for none; answers the column. Read by a TryFrom, the letters would stand in market,
+// below their definitions, which the clauses cite.
 pub(crate) fn check_setting(class: u32, column: char, last_sale: u32) -> Result<Column, Refusal>
     ensures refusal { refused_by result ≡ refusal (check (not (is_class class)) bad_class ∷ check (not (column == letter_l || column == letter_h)) bad_column ∷ check (not (is_last_sale last_sale)) bad_last_sale ∷ []) }
     ensures column { IfOk result (λ c. c ≡ column_of column) }
@@ -37,12 +38,20 @@ pub(crate) fn check_setting(class: u32, column: char, last_sale: u32) -> Result<
     Ok(column)
 }
 
+// What a call finds free: how many stops are filed, for how many there is room, and how many lines are lent.
+#[derive(Clone, Copy)]
+pub(crate) struct Space {
+    pub(crate) filed: usize,
+    pub(crate) room: usize,
+    pub(crate) free: usize,
+}
+
 impl Board {
     // What every new order is refused for.
     pub(crate) fn check_order(&self, ticket: &Ticket) -> Result<(), Refusal>
         ensures { refused_by result ≡ refusal (order_checks ticket.now.kind ticket.now.member ticket.now.price ticket.now.shares (day_of Trading self.now)) }
     {
-        if !is_market(ticket.kind) && !is_price(ticket.price) {
+        if ticket.kind != Kind::Market && !is_price(ticket.price) {
             return Err(Refusal::Price);
         }
         if !is_shares(ticket.shares) {
@@ -68,45 +77,34 @@ impl Board {
         Ok(())
     }
 
-    // A stop wants a place in the stop file, of which so many are in use.
-    pub(crate) fn check_stop(
-        &self,
-        ticket: &Ticket,
-        filed: usize,
-        room: usize,
-    ) -> Result<(), Refusal>
-        ensures { refused_by result ≡ refusal (order_checks ticket.now.kind ticket.now.member ticket.now.price ticket.now.shares (day_of Trading self.now) ++ check (is_stop ticket.now.kind && nat_le room filed) stop_file_full ∷ []) }
+    // A stop wants a place in the stop file.
+    pub(crate) fn check_stop(&self, ticket: &Ticket, space: Space) -> Result<(), Refusal>
+        ensures { refused_by result ≡ refusal (order_checks ticket.now.kind ticket.now.member ticket.now.price ticket.now.shares (day_of Trading self.now) ++ check (is_stop ticket.now.kind && nat_le space.room space.filed) stop_file_full ∷ []) }
     {
         self.check_order(ticket)?;
-        if is_stop(ticket.kind) && room <= filed {
+        if ticket.kind == Kind::Stop && space.room <= space.filed {
             return Err(Refusal::StopFileFull);
         }
         Ok(())
     }
 
-    // Whether so many free lines are fewer than four for each order that waits, is filed or is entered.
-    pub(crate) fn is_short(&self, free: usize, filed: usize, entered: usize) -> bool
-        ensures { result ≡ nat_lt free (4 * (length (waiting_of self.now) + filed + entered)) }
+    // Whether the free lines are fewer than four for each order that waits, is filed or is entered.
+    fn is_short(&self, space: Space, entered: usize) -> bool
+        ensures { result ≡ nat_lt space.free (4 * (length (waiting_of self.now) + space.filed + entered)) }
     {
-        free / 4
+        space.free / 4
             < self
                 .line
                 .len()
-                .saturating_add(filed)
+                .saturating_add(space.filed)
                 .saturating_add(entered)
     }
 
-    pub(crate) fn check_enter(
-        &self,
-        ticket: &Ticket,
-        filed: usize,
-        room: usize,
-        free: usize,
-    ) -> Result<(), Refusal>
-        ensures { refused_by result ≡ refusal (order_checks ticket.now.kind ticket.now.member ticket.now.price ticket.now.shares (day_of Trading self.now) ++ check (is_stop ticket.now.kind && nat_le room filed) stop_file_full ∷ check (nat_lt free (4 * (length (waiting_of self.now) + filed + 1))) tape_short ∷ []) }
+    pub(crate) fn check_enter(&self, ticket: &Ticket, space: Space) -> Result<(), Refusal>
+        ensures { refused_by result ≡ refusal (order_checks ticket.now.kind ticket.now.member ticket.now.price ticket.now.shares (day_of Trading self.now) ++ check (is_stop ticket.now.kind && nat_le space.room space.filed) stop_file_full ∷ check (nat_lt space.free (4 * (length (waiting_of self.now) + space.filed + 1))) tape_short ∷ []) }
     {
-        self.check_stop(ticket, filed, room)?;
-        if self.is_short(free, filed, 1) {
+        self.check_stop(ticket, space)?;
+        if self.is_short(space, 1) {
             return Err(Refusal::TapeShort);
         }
         Ok(())
@@ -130,14 +128,8 @@ impl Board {
         Ok(())
     }
 
-    pub(crate) fn check_floor(
-        &self,
-        price: u32,
-        shares: u32,
-        filed: usize,
-        free: usize,
-    ) -> Result<(), Refusal>
-        ensures { refused_by result ≡ refusal (check (not (is_price price)) bad_price ∷ check (not (is_shares shares)) bad_shares ∷ check (outside price (orders_of self.now)) outside_quote ∷ check (nat_lt free (suc (4 * (length (waiting_of self.now) + filed + 0)))) tape_short ∷ []) }
+    pub(crate) fn check_floor(&self, price: u32, shares: u32, space: Space) -> Result<(), Refusal>
+        ensures { refused_by result ≡ refusal (check (not (is_price price)) bad_price ∷ check (not (is_shares shares)) bad_shares ∷ check (outside price (orders_of self.now)) outside_quote ∷ check (nat_lt space.free (suc (4 * (length (waiting_of self.now) + space.filed + 0)))) tape_short ∷ []) }
     {
         if !is_price(price) {
             return Err(Refusal::Price);
@@ -148,25 +140,29 @@ impl Board {
         if self.book.is_outside(price) {
             return Err(Refusal::OutsideQuote);
         }
-        if free == 0 || self.is_short(free - 1, filed, 0) {
+        // one line is the trade's own
+        let Some(free) = space.free.checked_sub(1) else {
+            return Err(Refusal::TapeShort);
+        };
+        if self.is_short(Space { free, ..space }, 0) {
             return Err(Refusal::TapeShort);
         }
         Ok(())
     }
 
-    pub(crate) fn check_resume(&self, filed: usize, free: usize) -> Result<(), Refusal>
-        ensures { refused_by result ≡ refusal (check (not self.now.paused) not_paused ∷ check (nat_lt free (4 * (length (waiting_of self.now) + filed + 0))) tape_short ∷ []) }
+    pub(crate) fn check_resume(&self, space: Space) -> Result<(), Refusal>
+        ensures { refused_by result ≡ refusal (check (not self.now.paused) not_paused ∷ check (nat_lt space.free (4 * (length (waiting_of self.now) + space.filed + 0))) tape_short ∷ []) }
     {
         if !self.paused {
             return Err(Refusal::NotPaused);
         }
-        if self.is_short(free, filed, 0) {
+        if self.is_short(space, 0) {
             return Err(Refusal::TapeShort);
         }
         Ok(())
     }
 
-    // The stop that a ticket would file.
+    // The stop that a ticket would file. As a From it would stand in market, below its definition, which the clause cites.
     pub(crate) fn next_stop(&self, ticket: &Ticket) -> Stop
         ensures { result ≡ stop_of (next ticket.now (orders_of self.now)) }
     {
@@ -183,37 +179,6 @@ impl Board {
     pub(crate) fn next_order(&self, ticket: &Ticket) -> Order
         ensures { result ≡ next ticket.now (orders_of self.now) }
     {
-        let price = if is_market(ticket.kind) {
-            0
-        } else {
-            ticket.price
-        };
-        Order::new(
-            self.book.len() as u32 + 1,
-            ticket.member,
-            ticket.side,
-            ticket.kind,
-            price,
-            ticket.shares,
-        )
-    }
-}
-
-// A market order has no price.
-fn is_market(kind: Kind) -> bool
-    ensures { result ≡ is_market kind }
-{
-    match kind {
-        Kind::Market => true,
-        Kind::Limit | Kind::ImmediateOrCancel | Kind::Stop => false,
-    }
-}
-
-fn is_stop(kind: Kind) -> bool
-    ensures { result ≡ is_stop kind }
-{
-    match kind {
-        Kind::Stop => true,
-        Kind::Limit | Kind::Market | Kind::ImmediateOrCancel => false,
+        self.book.next_order(ticket)
     }
 }

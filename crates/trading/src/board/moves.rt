@@ -1,5 +1,5 @@
 // The moves of a board: each makes of the day that the board shows what the definition of that move says.
-ghost use Rattle.std.specs.Prelude.{◌≡◌, ◌+◌, ◌<◌, true, List, length, take, drop};
+ghost use Rattle.std.specs.Prelude.{◌≡◌, ◌+◌, true, List};
 ghost use Rattle.market.specs.declared.words.TapeLine.{TapeLine as TapeLines};
 ghost use Rattle.market.specs.Sides.{opposite};
 ghost use Rattle.orderbook.specs.Trades.{is_off};
@@ -7,9 +7,11 @@ ghost use Rattle.replay.specs.Days.{Loading, new_day};
 ghost use Rattle.replay.specs.Rolls.{look};
 ghost use Rattle.replay.specs.Moves.{low_of, high_of, trade, leave, withdraw, rest, pause, centre};
 ghost use Rattle.trading.specs.Boards.{orders_of, day_of};
+ghost use Rattle.trading.specs.Tapes.{written, HasRoom, Grew};
 ghost use Rattle.trading.specs.Shows.{Does, Runner};
 
 use crate::board::Board;
+use crate::board::tape::Tape;
 use crate::line::Line;
 use market::range::range_around;
 use market::words::{Column, Order, Place, TapeLine};
@@ -18,6 +20,7 @@ use sharing::rule::ShareOut;
 
 impl Board {
     // A new day: class 1, lower values, no last sale, nobody there.
+    #[tactic(auto, unfolding(replay::specs::Days::new_day))]
     pub(crate) fn new() -> Board
         ensures { day_of Loading result ≡ new_day }
     {
@@ -33,6 +36,7 @@ impl Board {
     }
 
     // An order that is filled leaves the line.
+    #[tactic(auto, unfolding(replay::specs::Moves::leave))]
     pub(crate) fn leave(&mut self, number: u32)
         ensures { (ls : List TapeLines) → Does self.old ls self.new ls (leave number) }
     {
@@ -40,6 +44,7 @@ impl Board {
     }
 
     // An order that is not on the book goes there, out of the line.
+    #[tactic(auto, unfolding(replay::specs::Moves::rest))]
     pub(crate) fn rest(&mut self, number: u32)
         requires { is_off (look number (orders_of self.old)) ≡ true }
         ensures { (ls : List TapeLines) → Does self.old ls self.new ls (rest number) }
@@ -49,22 +54,23 @@ impl Board {
     }
 
     // All open shares of an order are cancelled, wherever they are, with a line of the tape.
-    pub(crate) fn withdraw(&mut self, number: u32, tape: &mut [TapeLine], used: usize) -> usize
-        requires { used < length tape.old }
-        ensures used { result ≡ used + 1 }
-        ensures day { Does self.old (take used tape.old) self.new (take result tape.new) (withdraw number) }
-        ensures others { drop result tape.new ≡ drop result tape.old }
+    #[tactic(auto, unfolding(replay::specs::Moves::withdraw))]
+    pub(crate) fn withdraw(&mut self, number: u32, tape: &mut Tape)
+        requires { HasRoom 1 tape.old }
+        ensures used { tape.new.used ≡ tape.old.used + 1 }
+        ensures day { Does self.old (written tape.old) self.new (written tape.new) (withdraw number) }
+        ensures grew { Grew tape.old tape.new }
     {
         let shares = self.book.cancel(number);
         self.line.leave(number);
-        tape[used] = TapeLine::Cancel {
+        tape.write(TapeLine::Cancel {
             order: number,
             shares,
-        };
-        used + 1
+        });
     }
 
     // Trading is paused.
+    #[tactic(auto, unfolding(replay::specs::Moves::pause))]
     pub(crate) fn pause(&mut self)
         ensures { (ls : List TapeLines) → Does self.old ls self.new ls (pause true) }
     {
@@ -72,48 +78,46 @@ impl Board {
     }
 
     // The range is set from the last sale.
+    #[tactic(auto, unfolding(replay::specs::Moves::centre))]
     pub(crate) fn centre(&mut self)
         ensures { (ls : List TapeLines) → Does self.old ls self.new ls centre }
     {
         self.range = range_around(self.class, self.column, self.last_sale);
     }
 
-    // An order trades at a price with the other side, with a line of the tape.
+    // An order trades at a price with the other side, with a line of the tape. It stands beside the board here and in what follows: a
+    // struct that lent out both would have each of these functions say that it keeps either.
+    #[tactic(auto, unfolding(replay::specs::Moves::trade))]
     pub(crate) fn print<R: ShareOut>(
         &mut self,
         rule: &R,
         order: &Order,
         price: u32,
-        tape: &mut [TapeLine],
-        used: usize,
-    ) -> usize
+        tape: &mut Tape,
+    )
         requires runner { Runner (orders_of self.old) order.now }
-        requires room { used < length tape.old }
-        ensures used { result ≡ used + 1 }
-        ensures day { Does self.old (take used tape.old) self.new (take result tape.new) (trade (R.ShareOut.gifts rule.now) order.now.number (opposite order.now.side) price) }
+        requires room { HasRoom 1 tape.old }
+        ensures used { tape.new.used ≡ tape.old.used + 1 }
+        ensures day { Does self.old (written tape.old) self.new (written tape.new) (trade (R.ShareOut.gifts rule.now) order.now.number (opposite order.now.side) price) }
         ensures runner { Runner (orders_of self.new) order.now }
-        ensures others { drop result tape.new ≡ drop result tape.old }
+        ensures grew { Grew tape.old tape.new }
     {
         let shares = self.book.trade(rule, order.number, price);
         self.last_sale = price;
         let (low, high) = self.shown_range();
-        tape[used] = TapeLine::Print {
+        tape.write(TapeLine::Print {
             order: order.number,
             price,
             shares,
             low,
             high,
-        };
-        used + 1
+        });
     }
 
-    // The range as a print's line shows it: 0 and 0 without one.
+    // The range as a print's line shows it: 0 and 0 without one, as it is printed.
     pub(crate) fn shown_range(&self) -> (u32, u32)
         ensures { result ≡ (low_of self.now.range, high_of self.now.range) }
     {
-        match self.range {
-            None => (0, 0),
-            Some(range) => (range.low, range.high),
-        }
+        self.range.map_or((0, 0), |range| (range.low, range.high))
     }
 }

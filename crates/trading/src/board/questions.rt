@@ -12,6 +12,7 @@ use orderbook::book::totals::Totals;
 
 impl Board {
     // The quote of a side: its best price and all shares there; an empty side has none.
+    #[tactic(auto, unfolding(replay::specs::Questions::quote))]
     pub fn quote(&self, side: Side) -> Option<(u32, u32)>
         ensures { (f : Phase) → result ≡ quote side (day_of f self.now) }
     {
@@ -36,13 +37,11 @@ impl Board {
     pub fn order(&self, number: u32) -> Result<Order, Refusal>
         ensures { (f : Phase) → found_in result ≡ record_of number (day_of f self.now) }
     {
-        match self.book.get(number) {
-            Some(order) => Ok(order),
-            None => Err(Refusal::NoSuchOrder),
-        }
+        self.book.get(number).ok_or(Refusal::NoSuchOrder)
     }
 
     // Accepted, printed, cancelled and open shares of all orders of the roll.
+    #[tactic(auto, unfolding(replay::specs::Questions::totals))]
     pub fn totals(&self) -> Totals
         ensures { (f : Phase) → totals_of result ≡ totals (day_of f self.now) }
     {

@@ -1,13 +1,13 @@
-use Rattle.std.proofs.Common.{◌≡◌, ◌∷◌, ◌++◌, ◌<◌, ◌-◌, [], length, get_or, take, map, sym, refl, ap, ◌∙◌, arith}
+use Rattle.std.proofs.Common.{rules, ◌≡◌, ◌∷◌, ◌++◌, ◌<◌, ◌-◌, [], length, get_or, take, map, sym, refl, ap, ◌∙◌, arith}
 use Rattle.std.proofs.lemmas.List.{drop_more, map-append, drop_all}
-use Rattle.replay.specs.Days.{Day, Loading, new_day}
-use Rattle.replay.specs.StopFile.{file_of}
+use Rattle.replay.specs.Days.{Loading, new_day}
 use Rattle.trading.specs.declared.board.Board.{Board}
 use Rattle.trading.specs.Boards.{day_of}
 use Rattle.playback.specs.Views.{view_of}
 use Rattle.playback.specs.declared.call.Call.TheVariants.{Set}
-use Rattle.playback.specs.Stages.{call_of, answer_of, lines_of}
-use Rattle.playback.proofs.Replaying.{begun, told_fit, went_on, filed_after, did_by, midway_by, view_in, all_told}
+use Rattle.playback.specs.Stages.{call_of}
+use Rattle.playback.specs.Replies.{answer_of, lines_of}
+use Rattle.playback.proofs.Replaying.{begun, told_fit, went_on, did_by, midway_by, view_in, all_told}
 use Rattle.playback.proofs.Lawful.{list_laws}
 use Rattle.playback.proofs.whole_day.replay.Goals as goal
 
@@ -20,7 +20,6 @@ loop-call-init g c =
       long = refl;
       rule = b.keeps.1;
       room = b.keeps.0;
-      filed = b.file ∙ ap (λ (d : Day). file_of d.roll) (sym b.day);
       midway = begun _ _ _ b.day (ap (map answer_of) n.0) n.1 n.2;
     }
 
@@ -28,11 +27,9 @@ pub slice_bounds-note-end : goal.slice_bounds-note-end
 slice_bounds-note-end g c =
     let v = c.loop-call.invariant in
     let x = get_or c.args.calls.now c.loop-call.call-index (Set 0 0 0) in
-    let did = did_by x (ap g.R.ShareOut.gifts v.rule) v.room v.long (c.step-next.ensures.did v.filed) in
-    omega (arith, c.lines-used.ensures, told_fit c.step-next.result.reply v.midway did)
-
-pub shape_of-lines-in_err-note : goal.shape_of-lines-in_err-note
-shape_of-lines-in_err-note g c = c.step-next.auto.tape ∙ c.loop-call.invariant.long
+    let did = did_by x (ap g.R.ShareOut.gifts v.rule) v.room v.long c.step-next.ensures.did in
+    let count : c.map_or-used.result ≡ lines_of c.step-next.result.reply = search rules in
+    omega (arith, count, told_fit c.step-next.result.reply v.midway did)
 
 pub returns-in_err-note-clause-laws : goal.returns-in_err-note-clause-laws
 returns-in_err-note-clause-laws g c = list_laws _ (g.R.ShareOut.lawful c.args.rule) _ _
@@ -47,16 +44,16 @@ loop-call-preserved g c =
     let x = get_or xs i (Set 0 0 0) in
     let r = c.step-next.result.reply in
     let k = c.in_ok-note.ensures in
-    let did = did_by x (ap g.R.ShareOut.gifts v.rule) v.room v.long (c.step-next.ensures.did v.filed) in
+    let did = did_by x (ap g.R.ShareOut.gifts v.rule) v.room v.long c.step-next.ensures.did in
     let rest = midway_by (ap (map (call_of n)) (drop_more xs i (Set 0 0 0) lt)) refl refl refl v.midway in
     let st = c.step-next.result.stage in
     let seen = c.of-view.ensures Loading ∙ ap (λ (b : Board). view_of (day_of Loading b)) c.board.ensures ∙ view_in st in
-    let count : lines_of r ≡ c.lines-used.result - 0 = omega (arith, c.lines-used.ensures) in
+    let used : c.map_or-used.result ≡ lines_of r = search rules in
+    let count : lines_of r ≡ c.map_or-used.result - 0 = omega (arith, used) in
     record {
       long = c.step-next.auto.tape ∙ v.long;
       rule = c.step-next.ensures.keeps.1 ∙ v.rule;
       room = c.step-next.ensures.keeps.0 ∙ v.room;
-      filed = filed_after st did;
       midway =
           midway_by refl
           (sym (ap (map answer_of) k.replies ∙ map-append answer_of c.loop-call.report.replies.items (r ∷ [])))
@@ -64,9 +61,6 @@ loop-call-preserved g c =
           (ap (λ m. c.loop-call.report.tape.items ++ take m c.step-next.new.tape) count ∙ sym k.tape)
           (went_on r c.of-view.result rest did seen);
     }
-
-pub shape_of-lines : goal.shape_of-lines
-shape_of-lines g c = c.loop-call.invariant.long
 
 pub returns-clause-replies : goal.returns-clause-replies
 returns-clause-replies g c = (all_told (ap (map (call_of (length c.args.lines.now))) (drop_all c.loop-call.call-index c.args.calls.now (omega arith))) c.loop-call.invariant.midway).0

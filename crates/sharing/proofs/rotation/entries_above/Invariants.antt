@@ -5,4 +5,9 @@ use Rattle.sharing.proofs.rotation.entries_above.Given as goal
 
 abbrev pub invariant-loop-entry : goal.invariant-loop-entry
 invariant-loop-entry l =
-    (l.count + above l.level (drop l.entry-index l.row) ≡ above l.level l.row) × (l.count ≤ l.entry-index) × (min l.least (least_above l.level (drop l.entry-index l.row)) ≡ least_above l.level l.row) × (l.least ≤ most_shares)
+    record {
+      count : l.count + above l.level (drop l.entry-index l.row) ≡ above l.level l.row;
+      few : l.count ≤ l.entry-index;
+      least : min l.least (least_above l.level (drop l.entry-index l.row)) ≡ least_above l.level l.row;
+      lawful : l.least ≤ most_shares;
+    }

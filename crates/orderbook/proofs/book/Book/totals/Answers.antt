@@ -1,46 +1,33 @@
-use Rattle.std.proofs.Common.{◌/◌, ◌<◌, ◌≤◌, length, ap, arith}
+use Rattle.std.proofs.Common.{rules, ◌≡◌, ◌/◌, ap, ◌∙◌}
+use Rattle.std.specs.List.{sum_by}
+use Rattle.std.proofs.iter.runs.Made.{chains}
+use Rattle.market.specs.declared.words.Order.{Order}
 use Rattle.orderbook.specs.Books.{roll_of}
-use Rattle.orderbook.proofs.Lookup.{order_in, order_out}
 use Rattle.orderbook.proofs.Upkeep.{sound}
-use Rattle.orderbook.proofs.Summing.{summed_more, summed_few, whole}
+use Rattle.orderbook.proofs.Fronts.{total_sum_by}
+use Rattle.orderbook.proofs.Summing.{accepted_fits, filled_fits, cancelled_fits, open_fits}
 use Rattle.orderbook.proofs.book.Book.totals.Goals as goal
-use Rattle.orderbook.proofs.book.Book.totals.Goals.{else-loop-i-test, then-loop-i-test+in_default}
 
-pub overflow_add-accepted : goal.overflow_add-accepted
-overflow_add-accepted c =
-    let lt : c.loop-i.i < length (roll_of c.args.self.now) = omega arith in
-    let s = summed_more c.loop-i.invariant c.in-Some.order lt (order_in (roll_of c.args.self.now) c.loop-i.i c.in-Some.order lt c.in-Some.ensures) in
-    omega (arith, (summed_few (sound c.args.self.now.kept) s).accepted)
+pub sum-filled-requires-clause-fits : goal.sum-filled-requires-clause-fits
+sum-filled-requires-clause-fits c = let f = filled_fits (sound c.args.self.now.kept) in search (rules, chains)
 
-pub overflow_add-filled : goal.overflow_add-filled
-overflow_add-filled c =
-    let lt : c.loop-i.i < length (roll_of c.args.self.now) = omega arith in
-    let s = summed_more c.loop-i.invariant c.in-Some.order lt (order_in (roll_of c.args.self.now) c.loop-i.i c.in-Some.order lt c.in-Some.ensures) in
-    omega (arith, (summed_few (sound c.args.self.now.kept) s).filled)
+pub sum-requires-clause-fits : goal.sum-requires-clause-fits
+sum-requires-clause-fits c = let f = accepted_fits (sound c.args.self.now.kept) in search (rules, chains)
 
-pub overflow_add-cancelled : goal.overflow_add-cancelled
-overflow_add-cancelled c =
-    let lt : c.loop-i.i < length (roll_of c.args.self.now) = omega arith in
-    let s = summed_more c.loop-i.invariant c.in-Some.order lt (order_in (roll_of c.args.self.now) c.loop-i.i c.in-Some.order lt c.in-Some.ensures) in
-    omega (arith, (summed_few (sound c.args.self.now.kept) s).cancelled)
+pub sum-requires-2-clause-fits : goal.sum-requires-2-clause-fits
+sum-requires-2-clause-fits c = let f = cancelled_fits (sound c.args.self.now.kept) in search (rules, chains)
 
-pub overflow_add-open : goal.overflow_add-open
-overflow_add-open c =
-    let lt : c.loop-i.i < length (roll_of c.args.self.now) = omega arith in
-    let s = summed_more c.loop-i.invariant c.in-Some.order lt (order_in (roll_of c.args.self.now) c.loop-i.i c.in-Some.order lt c.in-Some.ensures) in
-    omega (arith, (summed_few (sound c.args.self.now.kept) s).left)
+pub sum-requires-3-clause-fits : goal.sum-requires-3-clause-fits
+sum-requires-3-clause-fits c = let f = open_fits (sound c.args.self.now.kept) in search (rules, chains)
 
-pub loop-i-preserved : goal.loop-i-preserved
-loop-i-preserved c =
-    let lt : c.loop-i.i < length (roll_of c.args.self.now) = omega arith in
-    summed_more c.loop-i.invariant c.in-Some.order lt (order_in (roll_of c.args.self.now) c.loop-i.i c.in-Some.order lt c.in-Some.ensures)
+pub returns-clause-accepted : goal.returns-clause-accepted
+returns-clause-accepted c = let e : c.sum.result ≡ sum_by (λ (o : Order). o.accepted) (roll_of c.args.self.now) = search (rules, chains) in e ∙ total_sum_by (λ o. o.accepted) (roll_of c.args.self.now)
 
-pub returns : goal.returns
-returns c =
-    let os = roll_of c.args.self.now in
-    let le : length os ≤ c.loop-i.i = elim c.loop-i-test.branch [
-      | else-loop-i-test w ↦ omega (arith, w.loop-i-test.false, c.len-i-end.ensures)
-      | then-loop-i-test+in_default w ↦ order_out os c.loop-i.i w.in_default.ensures
-    ] in
-    let s = whole c.loop-i.invariant le in
-    record { accepted = s.accepted_is; printed = ap (λ n. n / 2) s.filled_is; cancelled = s.cancelled_is; amount = s.left_is }
+pub returns-clause-printed : goal.returns-clause-printed
+returns-clause-printed c = let e : c.sum-filled.result ≡ sum_by (λ (o : Order). o.filled) (roll_of c.args.self.now) = search (rules, chains) in ap (λ n. n / 2) (e ∙ total_sum_by (λ o. o.filled) (roll_of c.args.self.now))
+
+pub returns-clause-cancelled : goal.returns-clause-cancelled
+returns-clause-cancelled c = let e : c.sum-2.result ≡ sum_by (λ (o : Order). o.cancelled) (roll_of c.args.self.now) = search (rules, chains) in e ∙ total_sum_by (λ o. o.cancelled) (roll_of c.args.self.now)
+
+pub returns-clause-amount : goal.returns-clause-amount
+returns-clause-amount c = let e : c.sum-3.result ≡ sum_by (λ (o : Order). o.«open») (roll_of c.args.self.now) = search (rules, chains) in e ∙ total_sum_by (λ o. o.«open») (roll_of c.args.self.now)

@@ -1,24 +1,20 @@
-use Rattle.std.proofs.Common.{◌≡◌, Bool, true, false, ◌&&◌, map, sym, ap, ◌∙◌, rules}
-use Rattle.std.proofs.lemmas.Bool.{and_left}
-use Rattle.stops.specs.Stops.{above_all}
-use Rattle.stops.specs.Tables.{buy_of, sell_of}
-use Rattle.stops.specs.Priced.{buys_of, sells_of, held_by}
-use Rattle.stops.proofs.Merged.{above_append, above_by_number}
+use Rattle.std.proofs.Common.{◌≡◌, Bool, true, false, ◌&&◌, ltb, sym, ap, ◌∙◌, rules}
+use Rattle.std.specs.List.{list_all}
+use Rattle.stops.specs.Priced.{buys_of, sells_of}
+use Rattle.stops.proofs.Merged.{above_rows}
 use Rattle.stops.proofs.tables.PriceFile.is_above.Goals as goal
 
 pub returns-then-is_above_all : goal.returns-then-is_above_all
 returns-then-is_above_all c =
     let n = c.args.number in
-    let bs = map buy_of (buys_of c.args.self.now) in
-    let ss = map sell_of (sells_of c.args.self.now) in
-    let b : true ≡ above_all n bs = search rules in
-    let s : c.is_above_all-then-is_above_all.result ≡ above_all n ss = search rules in
-    s ∙ ap (λ (v : Bool). v && above_all n ss) b ∙ sym (above_append n bs ss) ∙ sym (above_by_number n (held_by c.args.self.now))
+    let f = c.args.self.now in
+    let b : true ≡ list_all (λ r. ltb r.number n) (buys_of f) = search rules in
+    let s : c.is_above_all-then-is_above_all.result ≡ list_all (λ r. ltb r.number n) (sells_of f) = search rules in
+    s ∙ ap (λ (v : Bool). v && list_all (λ r. ltb r.number n) (sells_of f)) b ∙ sym (above_rows n (buys_of f) (sells_of f))
 
 pub returns-else-is_above_all : goal.returns-else-is_above_all
 returns-else-is_above_all c =
     let n = c.args.number in
-    let bs = map buy_of (buys_of c.args.self.now) in
-    let ss = map sell_of (sells_of c.args.self.now) in
-    let b : false ≡ above_all n bs = search rules in
-    c.if-is_above_all.false ∙ sym (above_by_number n (held_by c.args.self.now) ∙ above_append n bs ss ∙ and_left (above_all n bs) (above_all n ss) (sym b))
+    let f = c.args.self.now in
+    let b : false ≡ list_all (λ r. ltb r.number n) (buys_of f) = search rules in
+    c.if-is_above_all.false ∙ ap (λ (v : Bool). v && list_all (λ r. ltb r.number n) (sells_of f)) b ∙ sym (above_rows n (buys_of f) (sells_of f))

@@ -1,36 +1,21 @@
-use Rattle.std.proofs.Common.{◌≡◌, false, not, map, arith, length-take, rules}
-use Rattle.std.specs.List.{prefix_len}
-use Rattle.std.proofs.ByRecursion.{All-append}
+use Rattle.std.proofs.Common.{◌≡◌, Option, sym, refl, subst, rules}
+use Rattle.std.specs.Option.{option_map, option_or}
+use Rattle.std.specs.List.{position}
+use Rattle.stops.specs.declared.seats.Seat.{Seat}
+use Rattle.stops.specs.declared.seats.Seat.TheVariants.{Buys, Sells}
+use Rattle.market.specs.declared.words.Side.TheVariants.{Buy, Sell}
 use Rattle.stops.specs.Stops.{numbered}
-use Rattle.stops.specs.Tables.{buy_of, sell_of}
+use Rattle.stops.specs.Tables.{stop_of}
 use Rattle.stops.specs.Priced.{buys_of, sells_of, held_by}
-use Rattle.stops.proofs.Picks.{number_found, number_missing}
+use Rattle.stops.specs.Seats.{seated, Leads}
+use Rattle.stops.proofs.Picks.{number_leads}
 use Rattle.stops.proofs.tables.PriceFile.seat_of.Goals as goal
-
-pub returns-then-i-self : goal.returns-then-i-self
-returns-then-i-self c =
-    let f = c.args.self.now in
-    let n = c.args.number in
-    let i = c.first_row-i.result in
-    let at : i ≡ prefix_len (λ u. not (numbered n (buy_of u))) (buys_of f) = search rules in
-    number_found buy_of n (buys_of f) i at (held_by f) (omega (arith, f.long, f.within, length-take f.buying f.buys, c.if-i-self.true))
-
-pub returns-then-j-self : goal.returns-then-j-self
-returns-then-j-self c =
-    let f = c.args.self.now in
-    let n = c.args.number in
-    let j = c.first_row-j.result in
-    let at : j ≡ prefix_len (λ u. not (numbered n (sell_of u))) (sells_of f) = search rules in
-    number_found sell_of n (sells_of f) j at (held_by f) (omega (arith, f.long, f.within, length-take f.selling f.sells, c.if-j-self.true))
 
 pub returns : goal.returns
 returns c =
     let f = c.args.self.now in
     let n = c.args.number in
-    let i = c.first_row-i.result in
-    let j = c.first_row-j.result in
-    let at : i ≡ prefix_len (λ u. not (numbered n (buy_of u))) (buys_of f) = search rules in
-    let by : j ≡ prefix_len (λ u. not (numbered n (sell_of u))) (sells_of f) = search rules in
-    All-append (λ u. numbered n u ≡ false) (map buy_of (buys_of f)) (map sell_of (sells_of f))
-    (number_missing buy_of n (buys_of f) i at (omega (arith, f.long, f.within, length-take f.buying f.buys, c.if-i-self.false)))
-    (number_missing sell_of n (sells_of f) j by (omega (arith, f.long, f.within, length-take f.selling f.sells, c.if-j-self.false)))
+    let o = position (λ u. numbered n (stop_of Buy u)) (buys_of f) in
+    let p = position (λ u. numbered n (stop_of Sell u)) (sells_of f) in
+    let q : c.or_else.result ≡ option_or (option_map (λ i. Buys i) (position (λ u. numbered c.args.number (stop_of Buy u)) (buys_of f))) (option_map (λ i. Sells i) (position (λ u. numbered c.args.number (stop_of Sell u)) (sells_of f))) = search rules in
+    subst (λ (r : Option Seat). Leads (numbered n) (seated (buys_of f) (sells_of f) r) (held_by f)) (sym q) (number_leads n (buys_of f) (sells_of f) o p refl refl)

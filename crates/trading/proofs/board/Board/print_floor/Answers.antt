@@ -1,25 +1,36 @@
-use Rattle.std.proofs.Common.{refl, ◌∙◌, arith}
-use Rattle.std.proofs.lemmas.List.{drop-set-lt}
-use Rattle.market.specs.Ranges.{range_around}
-use Rattle.replay.specs.Moves.{floored}
+use Rattle.std.proofs.Common.{[], refl}
+use Rattle.replay.specs.Days.{Trading}
+use Rattle.replay.specs.Moves.{centre, floored}
+use Rattle.trading.proofs.Days.{running}
+use Rattle.trading.proofs.Running.{shown}
 use Rattle.trading.proofs.Tape.{wrote}
 use Rattle.trading.proofs.board.Board.print_floor.Goals as goal
 
-pub returns : goal.returns
-unfolding floored
-returns c = record {
-  lines = refl;
-  line = refl;
-  day = λ f d s. record {
-    roll = s.roll;
-    line = s.line;
-    paused = refl;
-    range = c.range_around-self.ensures.range ∙ (λ i. range_around (s.class i) (s.column i) c.args.price);
-    last = refl;
-    class = s.class;
-    column = s.column;
-    phase = s.phase;
-    tape = wrote c.args.tape.now 0 c.requires refl s.tape;
-  };
-  others = drop-set-lt 1 c.args.tape.now 0 _ (omega arith);
-}
+pub returns-clause-line : goal.returns-clause-line
+unfolding centre
+returns-clause-line c = (c.centre.ensures [] Trading _ (shown Trading _ [])).line
+
+pub returns-clause-day : goal.returns-clause-day
+unfolding centre floored
+returns-clause-day c = λ f d s.
+    let t = c.centre.ensures _ f (running c.args.price d) (record {
+      roll = s.roll;
+      line = s.line;
+      paused = refl;
+      range = s.range;
+      last = refl;
+      class = s.class;
+      column = s.column;
+      phase = s.phase;
+      tape = s.tape;
+    }) in record {
+      roll = t.roll;
+      line = t.line;
+      paused = t.paused;
+      range = t.range;
+      last = t.last;
+      class = t.class;
+      column = t.column;
+      phase = t.phase;
+      tape = wrote c.write.ensures.written refl t.tape;
+    }

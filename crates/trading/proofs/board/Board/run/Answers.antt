@@ -1,5 +1,4 @@
-use Rattle.std.proofs.Common.{◌≡◌, ◌<◌, true, ◌⊎◌, length, take, Some, sym, ap, ◌∙◌, subst, inl, inr, ⊎_elim, arith}
-use Rattle.std.proofs.lemmas.Bool.{false≢true}
+use Rattle.std.proofs.Common.{◌≡◌, ◌<◌, true, ◌⊎◌, length, Some, sym, ap, ◌∙◌, subst, inl, inr, ⊎_elim, arith}
 use Rattle.market.specs.declared.words.Order.{Order}
 use Rattle.replay.specs.Days.{Day, Trading}
 use Rattle.replay.specs.Rolls.{look}
@@ -7,59 +6,37 @@ use Rattle.replay.specs.Runs.{settle, elect_at, centre_if, run_of}
 use Rattle.replay.specs.StopFile.{file_of}
 use Rattle.replay.proofs.Runs.{look_number}
 use Rattle.trading.specs.Boards.{orders_of, waiting_of}
-use Rattle.trading.specs.Ruling.{loose_of, Waits}
+use Rattle.trading.specs.Ruling.{Waits}
+use Rattle.trading.specs.Tapes.{written}
 use Rattle.trading.specs.Shows.{Shows, Printed, printed}
-use Rattle.trading.proofs.Tape.{drop_later}
-use Rattle.trading.proofs.Running.{waits_of, first_long, runs, settled_file, settled_out, centre_file, centre_line, centre_paused, run_is, day_with, shown}
+use Rattle.trading.proofs.Tape.{grew_more}
+use Rattle.trading.proofs.Running.{waits_of, runs, settled_file, settled_out, centre_file, centre_line, centre_paused, run_is, day_with, shown}
 use Rattle.trading.proofs.board.Board.run.Goals as goal
 
-pub prints-prints-requires : goal.prints-prints-requires
-prints-prints-requires g c =
+pub prints-prints-requires-clause-runner : goal.prints-prints-requires-clause-runner
+prints-prints-requires-clause-runner g c =
     let b = c.args.self.now in
-    let long = first_long (waiting_of b) c.args.number c.requires.first in
-    record {
-      runner = runs (orders_of b) c.args.number c.in-Some.order (waits_of b.ruled c.requires.first) (sym c.in-Some.ensures);
-      room = omega (arith, c.requires.room, long);
-    }
-
-pub settle-used-requires : goal.settle-used-requires
-settle-used-requires g c =
-    let b = c.args.self.now in
-    let long = first_long (waiting_of b) c.args.number c.requires.first in
-    record { runner = c.prints-prints.ensures.runner; room = omega (arith, c.requires.room, long, c.prints-prints.ensures.used.1, c.prints-prints.auto.tape) }
-
-pub elect_at-used-requires : goal.elect_at-used-requires
-elect_at-used-requires g c =
-    let b = c.args.self.now in
-    let long = first_long (waiting_of b) c.args.number c.requires.first in
-    omega (arith, c.requires.room, long, c.prints-prints.ensures.used.1, c.settle-used.ensures.used.1, c.prints-prints.auto.tape, c.settle-used.auto.tape)
-
--- the first in line is on the roll
-pub returns-in_default : goal.returns-in_default
-returns-in_default g c =
-    let b = c.args.self.now in
-    absurd (false≢true (ap loose_of c.in_default.ensures ∙ waits_of b.ruled c.requires.first))
+    runs (orders_of b) c.args.number c.unwrap-order.result (waits_of b.ruled c.requires.first) (sym c.get.ensures ∙ c.unwrap-order.ensures)
 
 pub returns : goal.returns
 returns g c =
     let b = c.args.self.now in
     let gifts = g.R.ShareOut.gifts c.args.rule.now in
     let n = c.args.number in
-    let r : Order = c.in-Some.order in
-    let ls = take c.args.used c.args.tape.now in
-    let found : look n (orders_of b) ≡ Some r = sym c.in-Some.ensures in
+    let r : Order = c.unwrap-order.result in
+    let ls = written c.args.tape.now in
+    let found : look n (orders_of b) ≡ Some r = sym c.get.ensures ∙ c.unwrap-order.ensures in
     let number : r.number ≡ n = look_number n (orders_of b) r found in
     let waits : Waits (orders_of b) n = waits_of b.ruled c.requires.first in
-    let long = first_long (waiting_of b) n c.requires.first in
     let pr = c.prints-prints in
-    let st = c.settle-used in
-    let e₁ = c.elect_at-used in
-    let e₂ = c.elect_at-used-2 in
+    let st = c.settle in
+    let e₁ = c.elect_at in
+    let e₂ = c.elect_at-2 in
     let ce = c.centre_first in
     -- the day that the board shows by itself, for what holds of line and pause
     let d₀ : Day = day_with Trading b ls in
-    let s₂ : Shows Trading st.new.self (take st.result st.new.tape) (settle r (printed gifts r d₀)) = st.ensures.day Trading (printed gifts r d₀) (pr.ensures.day Trading d₀ (shown Trading b ls)).shows in
-    let ls₅ = take e₂.result e₂.new.tape in
+    let s₂ : Shows Trading st.new.self (written st.new.tape) (settle r (printed gifts r d₀)) = st.ensures.day Trading (printed gifts r d₀) (pr.ensures.day Trading d₀ (shown Trading b ls)).shows in
+    let ls₅ = written e₂.new.tape in
     let d₄ : Day = day_with Trading e₂.new.self ls₅ in
     let s₅ : Shows Trading ce.new.self ls₅ (centre_if b.range pr.result.first d₄) = ce.ensures ls₅ Trading d₄ (shown Trading e₂.new.self ls₅) in
     let line₅ : waiting_of ce.new.self ≡ waiting_of e₂.new.self = s₅.line ∙ centre_line b.range pr.result.first d₄ in
@@ -67,15 +44,11 @@ returns g c =
     let out : (st.new.self.paused ≡ true) ⊎ (length (waiting_of st.new.self) < length (waiting_of b)) =
     ⊎_elim (λ p. inl (s₂.paused ∙ p)) (λ h. inr (omega (arith, h, ap length s₂.line))) (settled_out gifts r n d₀ number c.requires.first) in
     record {
-      used = (
-        omega (arith, pr.ensures.used.0, st.ensures.used.0, e₁.ensures.used.0, e₂.ensures.used.0),
-        omega (arith, c.requires.room, long, pr.ensures.used.1, st.ensures.used.1, e₁.ensures.used.1, e₂.ensures.used.1),
-      );
-      bound = ⊎_elim (λ p. inl (paused₅ ∙ p)) (λ h. inr (omega (arith, h, ap length line₅, pr.ensures.used.1, st.ensures.used.1, e₁.ensures.bound, e₂.ensures.bound))) out;
+      bound = ⊎_elim (λ p. inl (paused₅ ∙ p)) (λ h. inr (omega (arith, h, ap length line₅, pr.ensures.used, st.ensures.used, e₁.ensures.bound, e₂.ensures.bound))) out;
       less = ⊎_elim (λ p. inl (paused₅ ∙ p)) (λ h. inr (omega (arith, h, ap length line₅, e₁.ensures.few, e₂.ensures.few))) out;
       keeps = e₂.ensures.keeps ∙ e₁.ensures.keeps;
       day = λ f d s fl.
-          let p : Printed gifts r f pr.result.first pr.result.second pr.new.self (take pr.result.used pr.new.tape) d = pr.ensures.day f d s in
+          let p : Printed gifts r f pr.result.first pr.result.second pr.new.self (written pr.new.tape) d = pr.ensures.day f d s in
           let w : Waits d.roll r.number = subst (λ os. Waits os r.number) s.roll (subst (Waits (orders_of b)) (sym number) waits) in
           let t₂ = st.ensures.day f (printed gifts r d) p.shows in
           let t₃ = e₁.ensures.day f (settle r (printed gifts r d)) t₂ (fl ∙ sym (settled_file gifts r d w)) in
@@ -85,8 +58,5 @@ returns g c =
           let is : centre_if b.range pr.result.first d₅ ≡ run_of gifts n (look n d.roll) d =
           run_is gifts r d s.range p.first p.second ∙ ap (λ x. run_of gifts n x d) (sym (ap (look n) (sym s.roll) ∙ found)) in
           subst (λ (x : Day). Shows f ce.new.self ls₅ x × (g.F.StopFile.stops e₂.new.file ≡ file_of x.roll)) is (t₅, t₄.1 ∙ sym (centre_file b.range pr.result.first d₅));
-      others = e₂.ensures.others
-          ∙ drop_later e₁.result e₂.result _ _ e₂.ensures.used.0 e₁.ensures.others
-          ∙ drop_later st.result e₂.result _ _ (omega (arith, e₁.ensures.used.0, e₂.ensures.used.0)) st.ensures.others
-          ∙ drop_later pr.result.used e₂.result _ _ (omega (arith, st.ensures.used.0, e₁.ensures.used.0, e₂.ensures.used.0)) pr.ensures.others;
+      grew = grew_more pr.ensures.grew (grew_more st.ensures.grew (grew_more e₁.ensures.grew e₂.ensures.grew));
     }

@@ -1,4 +1,4 @@
-use Rattle.std.proofs.Common.{◌≡◌, not, is_some, None, sym, ap, ◌∙◌}
+use Rattle.std.proofs.Common.{◌≡◌, is_some, None, sym, ap, ◌∙◌}
 use Rattle.std.proofs.lemmas.Bool.{false≢true}
 use Rattle.market.specs.Orders.{rests_on}
 use Rattle.orderbook.specs.Books.{roll_of}
@@ -17,6 +17,6 @@ returns-in_default c = λ f ls d s.
 pub returns : goal.returns
 returns c = λ f ls d s.
     let r = c.args.order.now in
-    let some : c.args.first ≡ None → ⊥ = λ e. false≢true (sym (ap is_some e) ∙ c.is_none.ensures ∙ ap not c.if-is_none.false) in
+    let some : c.args.first ≡ None → ⊥ = λ e. false≢true (sym (ap is_some e) ∙ ap is_some c.in_ok-first.was) in
     c.clean_up_price.ensures ∙ clean_is r d s.range s.roll
     ∙ next_some c.args.first r d c.left.result some (c.left.ensures ∙ ap (left r.number) s.roll) c.if-left-eq0.false

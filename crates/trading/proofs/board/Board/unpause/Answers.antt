@@ -1,21 +1,23 @@
-use Rattle.std.proofs.Common.{refl, ◌∙◌}
-use Rattle.market.specs.Ranges.{range_around}
-use Rattle.replay.specs.Moves.{resumed}
+use Rattle.std.proofs.Common.{[], refl}
+use Rattle.replay.specs.Days.{Trading}
+use Rattle.replay.specs.Moves.{centre, resumed}
+use Rattle.trading.proofs.Days.{running}
+use Rattle.trading.proofs.Running.{shown}
 use Rattle.trading.proofs.board.Board.unpause.Goals as goal
 
 pub returns : goal.returns
-unfolding resumed
+unfolding centre resumed
 returns c = record {
-  line = refl;
-  day = λ ls f d s. record {
+  line = (c.centre.ensures [] Trading _ (shown Trading _ [])).line;
+  day = λ ls f d s. c.centre.ensures ls f (running d.last d) (record {
     roll = s.roll;
     line = s.line;
     paused = refl;
-    range = c.range_around-self.ensures.range ∙ (λ i. range_around (s.class i) (s.column i) (s.last i));
+    range = s.range;
     last = s.last;
     class = s.class;
     column = s.column;
     phase = s.phase;
     tape = s.tape;
-  };
+  });
 }
