@@ -1,21 +1,14 @@
 -- Numbers in a field: what one more digit does, and both round trips. Assumes nothing.
-use Rattle.std.proofs.Common.{◌≡◌, ℕ, ◌^◌, ◌<◌, ◌≤◌, true, false, cond, ◌&&◌, List, [], ◌∷◌, length, get_or, Some, None, Ok, decimal, Result, sym, refl, ap, ◌∙◌, subst, ⊎_elim, arith, rules}
-use Rattle.std.specs.Char.{is_ascii_digit}
+use Rattle.std.proofs.Common.{◌≡◌, ℕ, ◌^◌, ◌<◌, ◌≤◌, true, false, cond, List, length, get_or, Some, None, Ok, decimal, Result, sym, ap, ◌∙◌, subst, ⊎_elim, arith, rules}
 use Rattle.std.specs.Str.{all_ascii_digits}
 use Rattle.std.proofs.lemmas.Bool.Decides.{nat_tests}
 use Rattle.std.proofs.lemmas.Bool.{cases_Bool, cases_lt}
 use Rattle.std.proofs.lemmas.Str.Parse.{IsNumeralModel, numerals_by_fold, tells_all_ascii_digits, digits_value_short, parse_gives}
 use Rattle.std.specs.Str.{IsUtf8}
 use Rattle.std.specs.Str.Parse.{ParsesUnsigned}
-use Rattle.std.specs.List.{list_all}
 use Rattle.std.proofs.lemmas.Str.{IsUtf8-from_ascii}
 use Rattle.std.proofs.lemmas.Fmt.{IsAscii-from_digits, first_decimal, decimal_digit, decimal_nonempty, length-decimal-le, digits_decimal, digits_value-decimal, decimal-digits_value}
 use Rattle.text.specs.Numbers.{value_on, is_numeral, number_in}
-
--- each of some bytes is a digit
-pub digits_all : (bs : List ℕ) → list_all is_ascii_digit bs ≡ all_ascii_digits bs
-digits_all [] = refl
-digits_all (c ∷ cs) = ap (λ b. is_ascii_digit c && b) (digits_all cs)
 
 own : IsNumeralModel (λ ds. all_ascii_digits ds ≡ true) (value_on 0)
 own = numerals_by_fold _ tells_all_ascii_digits value_on (search rules)

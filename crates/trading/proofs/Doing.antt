@@ -1,9 +1,8 @@
 -- From a check and a move to what a call did.
-use Rattle.std.proofs.Common.{◌≡◌, ℕ, suc, ◌+◌, ◌*◌, ◌<◌, ◌≤◌, Bool, true, false, not, ◌&&◌, eqb, ltb, leb, List, [], ◌∷◌, ◌++◌, length, take, drop, Some, None, Ok, Err, Result, sym, refl, ap, ◌∙◌, arith, take-append-drop}
+use Rattle.std.proofs.Common.{◌≡◌, ℕ, suc, ◌+◌, ◌*◌, ◌<◌, ◌≤◌, Bool, true, false, not, ◌&&◌, eqb, ltb, leb, List, [], ◌∷◌, ◌++◌, length, take, drop, Some, None, sym, refl, ap, ◌∙◌, arith, take-append-drop}
 use Rattle.std.proofs.lemmas.List.{length-take-le}
 use Rattle.std.proofs.lemmas.Bool.{leb-false, ltb-false, eqb-false}
 use Rattle.std.proofs.lemmas.Bool.Decides.{nat_tests}
-use Rattle.market.specs.declared.refusal.Refusal.{Refusal}
 use Rattle.market.specs.declared.words.Kind.{Kind}
 use Rattle.market.specs.declared.words.Kind.TheVariants.{Limit, Market, ImmediateOrCancel, Stop as StopKind}
 use Rattle.market.specs.declared.words.Place.TheVariants.{Book, Line}
@@ -107,11 +106,6 @@ module _ (b : Board) {ss : List Stop} (fl : Filed ss b) {n : ℕ} (ne : n ≡ le
   unfolding busy
   checks_resume f free xe = ap (λ y. refusal (check (not b.paused) not_paused ∷ check (ltb y (4 * (length (waiting_of b) + n + 0))) tape_short ∷ [])) xe ∙ ap (λ x. refusal (check (not b.paused) not_paused ∷ check (ltb free (4 * (length (waiting_of b) + x + 0))) tape_short ∷ [])) counted
 
--- what passed ------------------------------------------------------------------------------------------------------------
--- a stop that passed finds a place
-pub stop_fits : (k : Kind) (m n : ℕ) → (is_stop k && leb m n) ≡ false → is_stop k ≡ true → n < m
-stop_fits k m n e s = leb-false m n (ap (λ b. b && leb m n) (sym s) ∙ e)
-
 -- what the free lines that passed are enough for
 pub lines_enter : (k : Kind) (o : Order) (ss ss' : List Stop) (l free : ℕ) → ss' ≡ with_stop k o ss → ltb free (4 * (l + length ss + 1)) ≡ false → may_add k + (3 * l + 4 * length ss') ≤ free
 lines_enter Limit o ss ss' l free e h = omega (arith, ap length e, ltb-false free (4 * (l + length ss + 1)) h)
@@ -133,16 +127,6 @@ counted_lines k new h e = sym (length-take-le k new h) ∙ ap length e
 
 pub shares_most : (q : ℕ) → not (is_shares q) ≡ false → q ≤ 1000000
 shares_most q e = grind (arith, nat_tests)
-
--- a stop that passed is added: the file says so
-refuses : {r : Result (Unit {0}) Refusal} {e : Refusal} → r ≡ Err e → r ≡ Ok tt → ⊥
-refuses p q = let z : ◌≡◌ {A = ℕ} 0 1 = cc in omega arith
-
-pub stop_added : (k : Kind) (m p q : ℕ) (d : Day) (zs : List Check) {n room l c : ℕ} {r : Result (Unit {0}) Refusal} {e : Refusal} → None ≡ refusal (order_checks k m p q d ++ check (is_stop k && leb c n) stop_file_full ∷ zs) → n ≡ l → c ≡ room
-    → r ≡ Err e → ((is_stop k ≡ true → l < room) → r ≡ Ok tt) → ⊥
-stop_added k m p q d zs {n} {room} {l} {c} {r} {e} h ne me was add =
-    let a = refusal_none (order_checks k m p q d ++ check (is_stop k && leb c n) stop_file_full ∷ zs) (sym h) in
-    refuses was (add (λ s. let z : n < c = stop_fits k c n a.1.1.1.1.0 s in omega arith))
 
 -- what holds of calls that passed
 pub record EnterPassed (q : ℕ) (d : Day) (short : Bool) : Type 0 where

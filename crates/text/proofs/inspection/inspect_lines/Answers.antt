@@ -1,9 +1,8 @@
-use Rattle.std.proofs.Common.{◌≡◌, ◌+◌, ◌-◌, true, eqb, ◌++◌, length, take, drop, is_ok, is_err, vec_items, sym, refl, ap, ◌∙◌, append-nil, arith}
-use Rattle.std.proofs.lemmas.List.{take_rest, nil_from_length}
+use Rattle.std.proofs.Common.{◌≡◌, ◌+◌, ◌-◌, ◌++◌, length, take, drop, is_ok, is_err, vec_items, sym, refl, ap, ◌∙◌, arith}
+use Rattle.std.proofs.lemmas.List.{take_rest}
 use Rattle.std.proofs.lemmas.Slice.{pushed}
-use Rattle.std.proofs.lemmas.Bool.Decides.{nat_tests}
 use Rattle.text.specs.Cuts.{rest_of}
-use Rattle.text.specs.Inspection.{one, lines_of, shown_as, shown_from, good_in, refused_in}
+use Rattle.text.specs.Inspection.{one, shown_as}
 use Rattle.text.proofs.Marks.{past_less}
 use Rattle.text.proofs.Inspecting.{some_left, read_good, read_bad, next_rest, shown_more, good_more, refused_more}
 use Rattle.text.proofs.inspection.inspect_lines.Goals as goal
@@ -63,13 +62,3 @@ loop-rest-preserved c =
       omega (arith, refused_more rest some _ is, ap (λ r. one (is_err r)) b.0),
       omega (arith, ap length is, past_less 10 rest some),
     )
-
-pub returns : goal.returns
-returns c =
-    let t : true ≡ eqb (length c.loop-rest.rest.now) 0 = c.loop-rest-test.ensures in
-    let none : c.loop-rest.rest.now ≡ _ = nil_from_length c.loop-rest.rest.now (grind (arith, nat_tests)) in
-    record {
-      shown = sym (append-nil (vec_items c.loop-rest.out)) ∙ ap (λ l. vec_items c.loop-rest.out ++ shown_from (c.loop-rest.tally.good + c.loop-rest.tally.refused + 1) (lines_of l)) (sym none) ∙ c.loop-rest.invariant.0;
-      good = omega (arith, c.loop-rest.invariant.1, ap (λ l. good_in (lines_of l)) none);
-      refused = omega (arith, c.loop-rest.invariant.2, ap (λ l. refused_in (lines_of l)) none);
-    }

@@ -18,8 +18,3 @@ returns-clause-left g c =
     let made : c.map.result ≡ option_map (stop_of side) c.pop_at.result = search rules in
     let was = made ∙ ap (option_map (stop_of side)) e.value ∙ sym (slice_get-map (stop_of side) rows.items c.args.at) in
     (pulled_row side (λ v. v.items) rows c.pop_at.new.self c.args.at c.pop_at.result e.value e.items e.absent).left c.map.result was
-
-pub returns-clause-fewer : goal.returns-clause-fewer
-returns-clause-fewer g c =
-    let e = c.pop_at.ensures in
-    (pulled_row g.S.BookSide.side (λ v. v.items) c.args.self.now.rows c.pop_at.new.self c.args.at c.pop_at.result e.value e.items e.absent).fewer

@@ -15,8 +15,5 @@ invariant_of-self-in-Sells-clause-distinct c =
     let f = c.args.self.now in
     pulled_apart c.pull-in-Sells.result _ _ (pulled_right (map (stop_of Buy) (buys_of f)) c.pull-in-Sells.result _ _ c.pull-in-Sells.ensures.left) f.distinct
 
-pub returns-in-Buys-clause-left : goal.returns-in-Buys-clause-left
-returns-in-Buys-clause-left c = pulled_left (map (stop_of Sell) (sells_of c.args.self.now)) c.pull.result _ _ c.pull.ensures.left
-
 pub returns-in-Sells-clause-left : goal.returns-in-Sells-clause-left
 returns-in-Sells-clause-left c = pulled_right (map (stop_of Buy) (buys_of c.args.self.now)) c.pull-in-Sells.result _ _ c.pull-in-Sells.ensures.left

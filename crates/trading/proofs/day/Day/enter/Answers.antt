@@ -1,4 +1,4 @@
-use Rattle.std.proofs.Common.{◌+◌, ◌*◌, ◌≤◌, ◌&&◌, ltb, leb, [], ◌∷◌, length, sym, refl, ap, ◌∙◌, arith}
+use Rattle.std.proofs.Common.{◌+◌, ◌*◌, ◌≤◌, ◌&&◌, ltb, leb, [], length, sym, refl, ap, ◌∙◌, arith}
 use Rattle.replay.specs.StopFile.{file_of}
 use Rattle.std.proofs.lemmas.Result.{err_from_is_err_and}
 use Rattle.orderbook.specs.Trades.{next}
@@ -7,11 +7,10 @@ use Rattle.replay.specs.Lists.{any}
 use Rattle.replay.specs.Book.{is_contra}
 use Rattle.replay.specs.Moves.{admit}
 use Rattle.replay.specs.Rolls.{is_stop}
-use Rattle.replay.specs.Refusals.{tape_short}
-use Rattle.replay.specs.Calls.{check, order_checks, checks, became, answered}
+use Rattle.replay.specs.Calls.{order_checks, checks, became, answered}
 use Rattle.trading.specs.Boards.{orders_of, waiting_of, day_of}
 use Rattle.trading.specs.Deeds.{entering}
-use Rattle.trading.proofs.Doing.{did_refused, did_done, lines_are, counted_lines, checks_enter, stop_added, enter_passed, filed_in, lines_enter}
+use Rattle.trading.proofs.Doing.{did_refused, did_done, lines_are, counted_lines, checks_enter, enter_passed, filed_in, lines_enter}
 use Rattle.trading.proofs.Running.{shown}
 use Rattle.trading.proofs.day.Day.enter.Goals as goal
 
@@ -25,12 +24,6 @@ returns-in_err-check_enter-clause-did g c =
     let fl = c.args.self.now.filed in
     rw (p.1, p.2) (did_refused (g.R.ShareOut.gifts c.args.self.now.rule) (g.F.StopFile.room c.args.self.now.file) b (entering t (length c.args.tape.now))
     (sym (c.in_err-check_enter.ensures ∙ checks_enter b fl c.space.ensures.filed Trading (g.F.StopFile.room c.args.self.now.file) c.space.ensures.room (length c.args.tape.now) c.space.ensures.free cs t.kind)) refl fl refl refl refl)
-
-pub returns-in_err-file_stop-clause-did : goal.returns-in_err-file_stop-clause-did
-returns-in_err-file_stop-clause-did g c =
-    let b = c.args.self.now.board in
-    let t = c.args.ticket in
-    absurd (stop_added t.kind t.member t.price t.shares (day_of Trading b) (check (ltb c.space.result.free (4 * (length (waiting_of b) + c.space.result.filed + 1))) tape_short ∷ []) c.in_ok-check_enter.ensures c.space.ensures.filed c.space.ensures.room c.in_err-file_stop.was (c.file_stop.ensures.added c.args.self.now.filed))
 
 pub enter-requires-clause-lines : goal.enter-requires-clause-lines
 enter-requires-clause-lines g c =

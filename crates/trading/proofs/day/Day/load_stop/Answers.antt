@@ -7,7 +7,7 @@ use Rattle.replay.specs.Rolls.{fresh}
 use Rattle.replay.specs.Moves.{admit}
 use Rattle.replay.specs.Calls.{order_checks, checks, became, answered}
 use Rattle.trading.specs.Boards.{orders_of, day_of}
-use Rattle.trading.proofs.Doing.{did_refused, did_done, checks_stop, stop_added, filed_in}
+use Rattle.trading.proofs.Doing.{did_refused, did_done, checks_stop, filed_in}
 use Rattle.trading.proofs.Running.{shown}
 use Rattle.trading.proofs.day.Day.load_stop.Goals as goal
 
@@ -20,10 +20,6 @@ returns-in_err-check_stop-clause-did g c =
     let fl = c.args.self.now.filed in
     rw (p.1, p.2) (did_refused (g.R.ShareOut.gifts c.args.self.now.rule) (g.F.StopFile.room c.args.self.now.file) b (LoadStop c.args.order.side c.args.order.member c.args.order.price c.args.order.shares)
     (sym (c.in_err-check_stop.ensures ∙ checks_stop b fl c.space.ensures.filed (g.F.StopFile.room c.args.self.now.file) c.space.ensures.room cs Stop)) refl fl refl refl refl)
-
-pub returns-in_err-file_stop-clause-did : goal.returns-in_err-file_stop-clause-did
-returns-in_err-file_stop-clause-did g c =
-    absurd (stop_added Stop c.args.order.member c.args.order.price c.args.order.shares (day_of Loading c.args.self.now.board) [] c.in_ok-check_stop.ensures c.space.ensures.filed c.space.ensures.room c.in_err-file_stop.was (c.file_stop.ensures.added c.args.self.now.filed))
 
 pub invariant_of-self-2 : goal.invariant_of-self-2
 unfolding admit
