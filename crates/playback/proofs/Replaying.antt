@@ -25,14 +25,14 @@ use Rattle.playback.specs.Views.{view_of, views}
 use Rattle.playback.specs.Lent.{over, lent}
 
 -- how many lines an answer tells of
-abbrev told : Answer → ℕ
+abbrev pub told : Answer → ℕ
 told Done = 0
 told (Number n) = 0
 told (Lines k) = k
 told (Entered n k) = k
 told (Refused k) = 0
 
-told_lines : (r : Result Reply CallRefusal) → lines_of r ≡ told (answer_of r)
+pub told_lines : (r : Result Reply CallRefusal) → lines_of r ≡ told (answer_of r)
 told_lines (Ok replies.Done) = refl
 told_lines (Ok (replies.Number n)) = refl
 told_lines (Ok (replies.Lines k)) = refl
@@ -52,7 +52,7 @@ told_done gifts d (Resume f) = refl
 told_done gifts d Close = refl
 
 -- on a day without history an answer tells of all lines of the tape
-told_tape : (gifts : Rule) (room : ℕ) (d : Day) (c : Call) → told (step gifts room (bare d) c).answer ≡ length (step gifts room (bare d) c).day.tape
+pub told_tape : (gifts : Rule) (room : ℕ) (d : Day) (c : Call) → told (step gifts room (bare d) c).answer ≡ length (step gifts room (bare d) c).day.tape
 unfolding step perform
 told_tape gifts room d c = go (refusal (checks room (bare d) c))
   where

@@ -5,7 +5,7 @@ use Rattle.std.proofs.lemmas.Bool.Decides.{nat_tests}
 use Rattle.std.proofs.lemmas.Bool.{ne_eqb, cases_lt}
 use Rattle.text.specs.declared.refusal.Refusal.TheVariants.{EmptyText}
 use Rattle.text.specs.declared.record.Record.{Record}
-use Rattle.text.specs.declared.field.LineFault.{LineFault}
+use Rattle.text.specs.declared.fault.LineFault.{LineFault}
 use Rattle.text.specs.declared.read.Fault.{Fault}
 use Rattle.text.specs.Cuts.{line_of, rest_of, next_of}
 use Rattle.text.specs.Reading.{fault_at, record_in, read_as, read_of}

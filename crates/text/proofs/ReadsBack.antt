@@ -9,7 +9,7 @@ use Rattle.text.specs.declared.refusal.Refusal.TheVariants.{EmptyText, FieldCoun
 use Rattle.market.specs.declared.words.PricedOrder.{PricedOrder}
 use Rattle.text.specs.declared.record.Record.{Record}
 use Rattle.text.specs.declared.record.Record.TheVariants.{Set, Limit, ImmediateOrCancel, Stop, Market, Cancel, FloorTrade, Resume, Open, Close}
-use Rattle.text.specs.declared.field.LineFault.{LineFault}
+use Rattle.text.specs.declared.fault.LineFault.{LineFault}
 use Rattle.text.specs.Cuts.{past, marks, field_at, field_count, line_of, rest_of}
 use Rattle.text.specs.Numbers.{number_in}
 use Rattle.text.specs.Letters.{kind_letter, side_in, column_in, side_letter, column_letter}

@@ -1,12 +1,13 @@
 -- What is shown of a day file before it is replayed: each line as it was read, or its refusal, and a count of both.
 use Rattle.std.specs.Prelude.{ℕ, ◌+◌, Bool, true, false, cond, List, [], ◌∷◌, ◌++◌, length, is_ok, is_err, Ok, Err, decimal, Result, ◌==◌, nat_lt}
-use Rattle.text.specs.declared.refusal.Refusal.{Refusal}
 use Rattle.text.specs.declared.refusal.Refusal.TheVariants.{InputTooLong}
 use Rattle.text.specs.declared.record.Record.{Record}
-use Rattle.text.specs.declared.field.LineFault.{LineFault}
+use Rattle.text.specs.declared.fault.LineFault.{LineFault}
 use Rattle.text.specs.Refusals.{code_of}
 use Rattle.text.specs.Reading.{record_in}
 use Rattle.text.specs.Written.{tabbed, bytes_for}
+use Rattle.text.specs.declared.printed.Layer.TheVariants.{Text}
+use Rattle.text.specs.Printed.{refused_bytes}
 
 -- a byte in front of the first of some lines
 abbrev pub on_first : ℕ → List (List ℕ) → List (List ℕ)
@@ -18,13 +19,9 @@ abbrev pub lines_of : List ℕ → List (List ℕ)
 lines_of [] = []
 lines_of (c ∷ cs) = cond (c == 10) ([] ∷ lines_of cs) (on_first c (lines_of cs))
 
--- a refusal: line number, layer T, number, field
-abbrev pub refusal_line : ℕ → Refusal → ℕ → List ℕ
-refusal_line n cause field = (33 ∷ tabbed (decimal n ∷ (84 ∷ []) ∷ decimal (code_of cause) ∷ decimal field ∷ [])) ++ 10 ∷ []
-
 abbrev pub shown_as : ℕ → Result Record LineFault → List ℕ
 shown_as n (Ok r) = bytes_for r ++ 10 ∷ []
-shown_as n (Err f) = refusal_line n f.cause f.field
+shown_as n (Err f) = refused_bytes n Text (code_of f.cause) f.field
 
 -- lines, numbered from n
 abbrev pub shown_from : ℕ → List (List ℕ) → List ℕ
@@ -50,5 +47,5 @@ summary_line good refused = (35 ∷ tabbed (decimal good ∷ decimal refused ∷
 -- everything that is printed of an input
 abbrev pub inspected : List ℕ → List ℕ
 inspected text =
-    cond (nat_lt 32768 (length text)) (refusal_line 0 InputTooLong 0)
+    cond (nat_lt 32768 (length text)) (refused_bytes 0 Text (code_of InputTooLong) 0)
     (cond (length text == 0) [] (shown_from 1 (lines_of text) ++ summary_line (good_in (lines_of text)) (refused_in (lines_of text))))

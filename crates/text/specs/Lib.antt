@@ -7,5 +7,6 @@ pub mod Spelled
 pub mod Reading
 pub mod Written
 pub mod RoundTrips
-pub mod Inspection
 pub mod Tape
+pub mod Printed
+pub mod Inspection

@@ -9,7 +9,7 @@ use Rattle.text.specs.declared.record.Record.{Record}
 use Rattle.text.specs.declared.record.Record.TheVariants.{Set, Limit, ImmediateOrCancel, Stop, Market, Cancel, FloorTrade, Resume, Open, Close}
 use Rattle.text.specs.declared.record.RecordKind.{RecordKind}
 use Rattle.text.specs.declared.record.RecordKind.TheVariants.{Set as SetKind, Limit as LimitKind, ImmediateOrCancel as ImmediateKind, Stop as StopKind, Market as MarketKind, Cancel as CancelKind, FloorTrade as FloorKind, Resume as ResumeKind, Open as OpenKind, Close as CloseKind}
-use Rattle.text.specs.declared.field.LineFault.{LineFault}
+use Rattle.text.specs.declared.fault.LineFault.{LineFault}
 use Rattle.text.specs.declared.read.Fault.{Fault}
 use Rattle.text.specs.declared.read.Read.{Read}
 use Rattle.text.specs.Cuts.{line_of, rest_of, next_of, field_count, field_at}

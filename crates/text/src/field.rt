@@ -9,18 +9,12 @@ ghost use Rattle.text.specs.declared.refusal.Refusal.{Refusal as RefusalOf};
 ghost use Rattle.text.specs.declared.refusal.Refusal.TheVariants.{BadNumber, BadLetter};
 
 use crate::cut::split_at_mark;
+use crate::fault::LineFault;
 use crate::letter::Lettered;
 use crate::number::number_in;
 use crate::refusal::Refusal;
 use arrayvec::ArrayVec;
 use itoa::Buffer;
-
-// What is wrong with a line, and in which field: the letter is field 1. No `Option`: 0, the whole line, is printed as such.
-#[derive(Clone, Copy)]
-pub(crate) struct LineFault {
-    pub(crate) cause: Refusal,
-    pub(crate) field: u32,
-}
 
 // What a field can hold, how it is written, and how a field that does not hold one is refused.
 pub(crate) trait FieldValue: Copy {

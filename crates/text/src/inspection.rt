@@ -1,9 +1,13 @@
 // A day file shown line by line, before anything is replayed.
 ghost use Rattle.std.specs.Prelude.{◌≡◌, ◌≤◌, ◌++◌, length, IfOk, OnOk};
 ghost use Rattle.text.specs.Written.{text_of};
-ghost use Rattle.text.specs.Inspection.{lines_of, refusal_line, summary_line, shown_from, good_in, refused_in, inspected};
+ghost use Rattle.text.specs.declared.printed.Layer.TheVariants.{Text};
+ghost use Rattle.text.specs.Refusals.{code_of};
+ghost use Rattle.text.specs.Printed.{refused_bytes};
+ghost use Rattle.text.specs.Inspection.{lines_of, summary_line, shown_from, good_in, refused_in, inspected};
 
 use crate::line::Line;
+use crate::printed::{Layer, refused_line};
 use crate::read::read_line;
 use crate::refusal::Refusal;
 use crate::write::line_of;
@@ -20,14 +24,9 @@ struct Tally {
 }
 
 fn refusal_line(number: u32, cause: Refusal, field: u32) -> Line
-    ensures { text_of result ≡ refusal_line number cause field }
+    ensures { text_of result ≡ refused_bytes number Text (code_of cause) field }
 {
-    Line::new(b'!')
-        .field(number)
-        .letter(b'T')
-        .field(cause.code())
-        .field(field)
-        .end()
+    refused_line(number, Layer::Text, cause.code(), field)
 }
 
 fn summary_line(tally: Tally) -> Line

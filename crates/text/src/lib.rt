@@ -1,11 +1,13 @@
 #![tactic(auto)]
 
 mod cut;
+pub mod fault;
 mod field;
 pub mod inspection;
 mod letter;
 mod line;
 mod number;
+pub mod printed;
 pub mod read;
 pub mod record;
 pub mod refusal;

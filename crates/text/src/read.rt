@@ -5,7 +5,8 @@ ghost use Rattle.text.specs.Reading.{set_in, priced_in, market_in, pair_in, fiel
 ghost use Rattle.text.specs.RoundTrips.{WritesBack};
 
 use crate::cut::{count_marks, split_at_mark};
-use crate::field::{FieldValue, Fields, LineFault};
+use crate::fault::LineFault;
+use crate::field::{FieldValue, Fields};
 use crate::record::{Record, RecordKind};
 use crate::refusal::Refusal;
 use market::words::{Column, PricedOrder, Side};

@@ -31,10 +31,17 @@ fn fields_of(line: TapeLine) -> Line
     }
 }
 
+// The line with its end.
+pub(crate) fn tape_line(line: TapeLine) -> Line
+    ensures { text_of result ≡ tape_bytes line ++ 10 ∷ [] }
+{
+    fields_of(line).end()
+}
+
 // Puts the line and its end at the buffer's start, and answers how many bytes that are.
 pub fn write_tape_line(line: TapeLine, buffer: &mut [u8]) -> Result<usize, Refusal>
     ensures answer { result ≡ put_length (Ok (tape_bytes line ++ 10 ∷ [])) buffer.old }
     ensures buffer { buffer.new ≡ put_buffer (Ok (tape_bytes line ++ 10 ∷ [])) buffer.old }
 {
-    fields_of(line).end().copy_to(buffer)
+    tape_line(line).copy_to(buffer)
 }

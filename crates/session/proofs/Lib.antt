@@ -1,0 +1,4 @@
+pub mod Turning
+pub mod Phases
+pub mod Bytes
+pub mod Playing

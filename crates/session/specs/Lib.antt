@@ -1,0 +1,4 @@
+pub mod Faults
+pub mod Hearing
+pub mod Transcripts
+pub mod Turns

@@ -1,0 +1,8 @@
+// A day in text: reads its lines, puts their calls to a new day, and says what is printed of it.
+#![tactic(auto)]
+
+pub mod fault;
+mod hearing;
+mod showing;
+pub mod transcript;
+mod turn;

@@ -1,0 +1,77 @@
+// Everything that is printed of a text: a new day is begun, and each line is put to it.
+ghost use Rattle.std.specs.Prelude.{◌≡◌, ◌≤◌, ◌++◌, length, IfOk, OnOk};
+ghost use Rattle.replay.specs.Days.{new_day};
+ghost use Rattle.session.specs.Faults.{refused};
+ghost use Rattle.session.specs.Hearing.{heard};
+ghost use Rattle.session.specs.Transcripts.{too_long, printed, transcript, bytes_of};
+
+use crate::fault::{Cause, Fault};
+use crate::hearing::first_line;
+use crate::showing::show;
+use crate::turn::{Turn, is_closed, just_closed, take_turn};
+use market::words::TapeLine;
+use playback::stage::Stage;
+use sharing::rule::ShareOut;
+use std::alloc::{AllocError, Global};
+use stops::stop_file::StopFile;
+use text::inspection::INPUT_LIMIT;
+use text::printed::print_line;
+use text::refusal::Refusal;
+use trading::loading::begin;
+
+// The longest text that is read is refused whole if a byte follows it.
+fn too_long() -> Fault
+    ensures { refused result ≡ too_long }
+{
+    Fault {
+        line: 0,
+        cause: Cause::Text(Refusal::InputTooLong),
+        field: 0,
+    }
+}
+
+// Puts each line of a text to a new day and prints what comes of it.
+fn play<R: ShareOut + Drop, F: StopFile + Drop>(
+    out: &mut Vec<u8>,
+    rule: R,
+    file: F,
+    lines: &mut [TapeLine],
+    text: &[u8],
+) -> Result<(), AllocError>
+    requires { length text.now ≤ 32768 }
+    ensures { OnOk result (out.new.items ≡ out.old.items ++ bytes_of (printed (R.ShareOut.gifts rule) (F.StopFile.room file) (length lines.old) 1 new_day (heard text.now))) }
+{
+    let mut stage = Stage::Load(begin(rule, file));
+    let mut rest = text;
+    let mut line = 0;
+    while !rest.is_empty() {
+        line += 1;
+        let first = first_line(rest);
+        let was_closed = is_closed(&stage);
+        let Turn { stage: next, reply } = take_turn(stage, line, first.record, lines);
+        let closed = just_closed(was_closed, &next);
+        show(out, reply, lines, closed, next.board())?;
+        stage = next;
+        rest = first.rest;
+    }
+    Ok(())
+}
+
+// The transcript of a text, for a day with this rule and stop file whose calls are each lent these lines. Want of memory is the one error.
+pub fn transcript<R: ShareOut + Drop, F: StopFile + Drop>(
+    heap: Global,
+    rule: R,
+    file: F,
+    lines: &mut [TapeLine],
+    text: &[u8],
+) -> Result<Vec<u8>, AllocError>
+    ensures printed { IfOk result (λ v. v.items ≡ bytes_of (transcript (R.ShareOut.gifts rule) (F.StopFile.room file) (length lines.old) text.now)) }
+{
+    let mut out: Vec<u8> = Vec::new(heap);
+    if text.len() > INPUT_LIMIT {
+        print_line(&mut out, too_long().printed())?;
+        return Ok(out);
+    }
+    play(&mut out, rule, file, lines, text)?;
+    Ok(out)
+}
