@@ -1,9 +1,6 @@
 -- Bytes of printed lines, list after list.
-use Rattle.std.proofs.Common.{◌≡◌, ℕ, ◌<◌, List, [], ◌∷◌, ◌++◌, length, drop, map, get_or, refl, ap, sym, ◌∙◌, append_assoc}
-use Rattle.std.proofs.lemmas.List.{append-nil, drop_more, drop_all}
-use Rattle.market.specs.declared.words.TapeLine.{TapeLine}
+use Rattle.std.proofs.Common.{◌≡◌, ℕ, List, [], ◌∷◌, ◌++◌, refl, ap, sym, ◌∙◌, append_assoc}
 use Rattle.text.specs.declared.printed.Printed.{Printed}
-use Rattle.text.specs.declared.printed.Printed.TheVariants.{Tape}
 use Rattle.text.specs.Printed.{printed_bytes}
 use Rattle.session.specs.Transcripts.{bytes_of}
 

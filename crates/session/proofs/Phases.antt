@@ -9,19 +9,51 @@ use Rattle.market.specs.declared.words.PricedOrder.{PricedOrder}
 use Rattle.replay.specs.Days.{Day, Phase, Loading, Trading, Closed, Rule, Call}
 use Rattle.replay.specs.Days as days
 use Rattle.replay.specs.Lists.{any}
-use Rattle.replay.specs.Rolls.{look, left, fresh}
+use Rattle.replay.specs.Rolls.{look, left}
 use Rattle.replay.specs.Book.{is_contra}
 use Rattle.replay.specs.Moves.{trade, leave, withdraw, rest, pause, centre, elect, admit, set_up, to, floored, resumed}
 use Rattle.replay.specs.Runs.{print_at, residual, settle_of, settle, elect_at, centre_if, first_price, next_price, run, run_of, turn_of, turn, turns, busy, work, start_place, join_of, join}
 use Rattle.replay.specs.Calls.{refusal, checks, is_phase, first_of, became, perform, decided, step}
-use Rattle.playback.specs.declared.call.Call.TheVariants as calls
-use Rattle.orderbook.specs.declared.ticket.Ticket.{Ticket}
 use Rattle.playback.specs.Stages.{call_of}
 use Rattle.text.specs.declared.fault.LineFault.{LineFault}
 use Rattle.text.specs.declared.record.Record.{Record}
 use Rattle.text.specs.declared.record.Record.TheVariants as records
-use Rattle.session.specs.Hearing.{ticket_of, call_for, limit_call, stop_call, opened, closed, phase_after, hear, phase_behind}
+use Rattle.session.specs.Hearing.{call_for, limit_call, stop_call, opened, closed, phase_after, hear, phase_behind}
 use Rattle.session.specs.Transcripts.{day_behind}
+
+-- the phase behind a call
+abbrev pub behind : Phase → Call → Phase
+behind f (days.Set k c p) = f
+behind f (days.LoadLimit s m p q) = f
+behind f (days.LoadStop s m p q) = f
+behind f days.Open = opened f
+behind f (days.Enter k s m p q n) = f
+behind f (days.CancelOrder m n k) = f
+behind f (days.FloorTrade p q n) = f
+behind f (days.Resume n) = f
+behind f days.Close = closed f
+
+behind_limit : (free : ℕ) (f g : Phase) (o : PricedOrder) → behind f (call_of free (limit_call g o)) ≡ f
+behind_limit free f Loading o = refl
+behind_limit free f Trading o = refl
+behind_limit free f Closed o = refl
+
+behind_stop : (free : ℕ) (f g : Phase) (o : PricedOrder) → behind f (call_of free (stop_call g o)) ≡ f
+behind_stop free f Loading o = refl
+behind_stop free f Trading o = refl
+behind_stop free f Closed o = refl
+
+behind_record : (free : ℕ) (f : Phase) (r : Record) → behind f (call_of free (call_for f r)) ≡ phase_after f r
+behind_record free f (records.Set k c p) = refl
+behind_record free f (records.Limit o) = behind_limit free f f o
+behind_record free f (records.ImmediateOrCancel o) = refl
+behind_record free f (records.Stop o) = behind_stop free f f o
+behind_record free f (records.Market s m q) = refl
+behind_record free f (records.Cancel m n) = refl
+behind_record free f (records.FloorTrade p q) = refl
+behind_record free f records.Resume = refl
+behind_record free f records.Open = refl
+behind_record free f records.Close = refl
 
 module _ (gifts : Rule) where
   print_phase : (r : Order) (x : Option ℕ) (d : Day) → (print_at gifts r x d).phase ≡ d.phase
@@ -108,23 +140,7 @@ module _ (gifts : Rule) where
       go None = e
       go (Some k) = refl
 
-  module _ (room free : ℕ) (d : Day) where
-    enters : (t : Ticket) → (step gifts room d (call_of free (calls.Enter t))).day.phase ≡ d.phase
-    unfolding became
-    enters t = stays room d _ (join_phase _ d)
-
-    limit_phase : (f : Phase) (o : PricedOrder) → (step gifts room d (call_of free (limit_call f o))).day.phase ≡ d.phase
-    unfolding became admit
-    limit_phase Loading o = stays room d _ refl
-    limit_phase Trading o = enters (ticket_of Limit o)
-    limit_phase Closed o = enters (ticket_of Limit o)
-
-    stop_phase : (f : Phase) (o : PricedOrder) → (step gifts room d (call_of free (stop_call f o))).day.phase ≡ d.phase
-    unfolding became admit
-    stop_phase Loading o = stays room d _ refl
-    stop_phase Trading o = enters (ticket_of Stop o)
-    stop_phase Closed o = enters (ticket_of Stop o)
-
+  module _ (room : ℕ) (d : Day) where
     open_phase : (step gifts room d days.Open).day.phase ≡ opened d.phase
     unfolding step perform checks became centre to
     open_phase = go d.phase refl
@@ -143,19 +159,19 @@ module _ (gifts : Rule) where
         go Trading e = refl
         go Closed e = e
 
-    record_phase : (r : Record) → (step gifts room d (call_of free (call_for d.phase r))).day.phase ≡ phase_after d.phase r
-    unfolding became withdraw floored resumed set_up
-    record_phase (records.Set k c p) = stays room d _ refl
-    record_phase (records.Limit o) = limit_phase d.phase o
-    record_phase (records.ImmediateOrCancel o) = enters (ticket_of ImmediateOrCancel o)
-    record_phase (records.Stop o) = stop_phase d.phase o
-    record_phase (records.Market s m q) = enters _
-    record_phase (records.Cancel m n) = stays room d _ refl
-    record_phase (records.FloorTrade p q) = stays room d _ (work_phase _ ∙ elect_phase (Some p) (floored p q d))
-    record_phase records.Resume = stays room d _ (work_phase (resumed d))
-    record_phase records.Open = open_phase
-    record_phase records.Close = close_phase
+    -- the phase behind a call, performed or refused
+    pub call_phase : (c : Call) → (step gifts room d c).day.phase ≡ behind d.phase c
+    unfolding became admit withdraw floored resumed set_up
+    call_phase (days.Set k c p) = stays room d _ refl
+    call_phase (days.LoadLimit s m p q) = stays room d _ refl
+    call_phase (days.LoadStop s m p q) = stays room d _ refl
+    call_phase days.Open = open_phase
+    call_phase (days.Enter k s m p q f) = stays room d _ (join_phase _ d)
+    call_phase (days.CancelOrder m n f) = stays room d _ refl
+    call_phase (days.FloorTrade p q f) = stays room d _ (work_phase _ ∙ elect_phase (Some p) (floored p q d))
+    call_phase (days.Resume f) = stays room d _ (work_phase (resumed d))
+    call_phase days.Close = close_phase
 
-    pub line_phase : (q : Result Record LineFault) → (day_behind gifts room free d (hear d.phase q)).phase ≡ phase_behind d.phase q
-    line_phase (Ok r) = record_phase r
-    line_phase (Err e) = refl
+    pub line_phase : (free : ℕ) (q : Result Record LineFault) → (day_behind gifts room free d (hear d.phase q)).phase ≡ phase_behind d.phase q
+    line_phase free (Ok r) = call_phase (call_of free (call_for d.phase r)) ∙ behind_record free d.phase r
+    line_phase free (Err e) = refl

@@ -11,7 +11,7 @@ use Rattle.text.specs.Cuts.{line_of, rest_of}
 use Rattle.text.specs.Reading.{record_in}
 use Rattle.text.specs.Inspection.{lines_of}
 use Rattle.text.proofs.Inspecting.{lines_more}
-use Rattle.replay.specs.Days.{Day, Phase, Loading, Closed, new_day, Rule, Outcome}
+use Rattle.replay.specs.Days.{Day, Phase, Closed, new_day, Rule, Outcome}
 use Rattle.replay.specs.Calls.{is_phase, handed, step}
 use Rattle.replay.specs.Questions.{totals}
 use Rattle.replay.specs.History.{bare, Bare}
@@ -26,8 +26,8 @@ use Rattle.session.specs.declared.fault.Fault.{Fault}
 use Rattle.session.specs.declared.fault.Cause.TheVariants as causes
 use Rattle.session.specs.Faults.{refused}
 use Rattle.session.specs.Hearing.{call_for, hear, phase_behind, heard_from, heard}
-use Rattle.session.specs.Transcripts.{spoken, totals_line, closing, said, said_of, day_behind, printed, bytes_of}
-use Rattle.session.specs.Turns.{asked, first_said, lines_in, shown, Performed, Left, Turned}
+use Rattle.session.specs.Transcripts.{spoken, closing, said_of, day_behind, printed, bytes_of}
+use Rattle.session.specs.Turns.{asked, lines_in, shown, Performed, Left, Turned}
 use Rattle.session.proofs.Phases.{line_phase}
 use Rattle.session.proofs.Bytes.{bytes_append}
 
@@ -63,15 +63,15 @@ module _ {gifts : Rule} {room n : ℕ} {a : Result Reply Fault} {e : Day} {ls ls
       let end : e ≡ bare x.day = p.day ∙ sym s.day in (
         end,
         ap (λ ps. ps ++ map Tape (take (lines_in a) ls') ++ closing d.phase e) (p.said ∙ ap (spoken n) (sym s.answer))
-        ∙ ap (λ ts. spoken n x.answer ++ map Tape ts ++ closing d.phase e) (p.lines ∙ sym s.lines)
-        ∙ ap (λ ps. spoken n x.answer ++ map Tape (handed d x.day) ++ ps) (closing_bare d.phase e x.day end),
+            ∙ ap (λ ts. spoken n x.answer ++ map Tape ts ++ closing d.phase e) (p.lines ∙ sym s.lines)
+            ∙ ap (λ ps. spoken n x.answer ++ map Tape (handed d x.day) ++ ps) (closing_bare d.phase e x.day end),
       )
   turned d (Err f) t =
       let fault : Fault = record { line = n; cause = causes.Text f.cause; field = f.field } in
       let p : Left fault (bare d) a e ls ls' = t.came in (
         p.day,
         ap (λ b. shown b ls' (closes d e) (totals e)) p.said
-        ∙ ap (λ ps. refused fault ∷ ps) (ap (λ y. closing d.phase y) p.day ∙ not_both (is_phase Closed d.phase) _),
+            ∙ ap (λ ps. refused fault ∷ ps) (ap (λ y. closing d.phase y) p.day ∙ not_both (is_phase Closed d.phase) _),
       )
 
 -- Some lines of a text had their turn, and the rest are still to come: the day with its history, and all bytes.
@@ -102,7 +102,7 @@ module _ {gifts : Rule} {room n : ℕ} {whole rest' out' : List ℕ} {e : Day} {
         day = d';
         shown = x.0;
         bytes =
-            ap (λ p. out' ++ bytes_of (printed gifts room f (n + 1) d' (heard_from p (lines_of rest')))) (line_phase gifts room f d q)
+            ap (λ p. out' ++ bytes_of (printed gifts room f (n + 1) d' (heard_from p (lines_of rest')))) (line_phase gifts room d f q)
             ∙ ap (λ l. out' ++ bytes_of (printed gifts room f (n + 1) d' (heard_from (phase_behind d.phase q) (lines_of l)))) left
             ∙ ap (λ o. o ++ bytes_of later) (more ∙ ap (λ ps. out ++ bytes_of ps) x.1)
             ∙ append_assoc out (bytes_of (said_of gifts room f n d (hear d.phase q))) (bytes_of later)
@@ -120,8 +120,8 @@ went_on {gifts} {gifts'} {room} {room'} {free} {n} {whole} {rest} {rest'} {out} 
     let t₂ = subst (λ y. Turned gifts y n b (asked b.phase n q) a e ls ls') fits t₁ in
     subst (λ f. Midway gifts room f whole (n + 1) e rest' out') long
     (on_day rest out m.day q (ap (λ f. out ++ bytes_of (printed gifts room f n m.day (heard_from m.day.phase (lines_of rest)))) long ∙ m.bytes) some read left
-        (subst (λ d. Turned gifts room n d (asked d.phase n q) a e ls ls') m.shown t₂)
-        (more ∙ ap (λ d. out ++ bytes_of (shown a ls' (closes d e) (totals e))) m.shown))
+    (subst (λ d. Turned gifts room n d (asked d.phase n q) a e ls ls') m.shown t₂)
+    (more ∙ ap (λ d. out ++ bytes_of (shown a ls' (closes d e) (totals e))) m.shown))
 
 pub none_left : (text : List ℕ) → true ≡ eqb (length text) 0 → text ≡ []
 none_left [] e = refl

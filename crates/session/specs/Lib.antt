@@ -2,3 +2,4 @@ pub mod Faults
 pub mod Hearing
 pub mod Transcripts
 pub mod Turns
+pub mod Laws

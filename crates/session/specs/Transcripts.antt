@@ -1,5 +1,5 @@
 -- Everything that is printed of a text. Assumes nothing.
-use Rattle.std.specs.Prelude.{ℕ, ◌+◌, Bool, cond, not, ◌&&◌, List, [], ◌∷◌, ◌++◌, length, map, Ok, Err, Result, ◌==◌, nat_lt}
+use Rattle.std.specs.Prelude.{ℕ, ◌+◌, cond, not, ◌&&◌, List, [], ◌∷◌, ◌++◌, length, map, Ok, Err, Result, ◌==◌, nat_lt}
 use Rattle.text.specs.Refusals.{code_of}
 use Rattle.text.specs.declared.refusal.Refusal.TheVariants.{InputTooLong}
 use Rattle.text.specs.declared.fault.LineFault.{LineFault}

@@ -3,6 +3,7 @@ ghost use Rattle.std.specs.Prelude.{◌≡◌, ◌≤◌, ◌++◌, length, IfOk
 ghost use Rattle.replay.specs.Days.{new_day};
 ghost use Rattle.session.specs.Faults.{refused};
 ghost use Rattle.session.specs.Hearing.{heard};
+ghost use Rattle.session.specs.Laws.{TextLaws};
 ghost use Rattle.session.specs.Transcripts.{too_long, printed, transcript, bytes_of};
 
 use crate::fault::{Cause, Fault};
@@ -57,6 +58,22 @@ fn play<R: ShareOut + Drop, F: StopFile + Drop>(
     Ok(())
 }
 
+// Prints all of a text, or that it is too long.
+fn print_text<R: ShareOut + Drop, F: StopFile + Drop>(
+    out: &mut Vec<u8>,
+    rule: R,
+    file: F,
+    lines: &mut [TapeLine],
+    text: &[u8],
+) -> Result<(), AllocError>
+    ensures { OnOk result (out.new.items ≡ out.old.items ++ bytes_of (transcript (R.ShareOut.gifts rule) (F.StopFile.room file) (length lines.old) text.now)) }
+{
+    if text.len() > INPUT_LIMIT {
+        return print_line(out, too_long().printed());
+    }
+    play(out, rule, file, lines, text)
+}
+
 // The transcript of a text, for a day with this rule and stop file whose calls are each lent these lines. Want of memory is the one error.
 pub fn transcript<R: ShareOut + Drop, F: StopFile + Drop>(
     heap: Global,
@@ -66,12 +83,9 @@ pub fn transcript<R: ShareOut + Drop, F: StopFile + Drop>(
     text: &[u8],
 ) -> Result<Vec<u8>, AllocError>
     ensures printed { IfOk result (λ v. v.items ≡ bytes_of (transcript (R.ShareOut.gifts rule) (F.StopFile.room file) (length lines.old) text.now)) }
+    ensures laws { TextLaws (R.ShareOut.gifts rule) (F.StopFile.room file) (length lines.old) text.now }
 {
     let mut out: Vec<u8> = Vec::new(heap);
-    if text.len() > INPUT_LIMIT {
-        print_line(&mut out, too_long().printed())?;
-        return Ok(out);
-    }
-    play(&mut out, rule, file, lines, text)?;
+    print_text(&mut out, rule, file, lines, text)?;
     Ok(out)
 }

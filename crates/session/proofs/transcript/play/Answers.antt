@@ -1,4 +1,4 @@
-use Rattle.std.proofs.Common.{◌≡◌, ◌+◌, ◌<◌, ◌++◌, not, ◌&&◌, length, refl, sym, ap, ◌∙◌, arith}
+use Rattle.std.proofs.Common.{◌++◌, not, ◌&&◌, length, ap, ◌∙◌, arith}
 use Rattle.replay.specs.Calls.{is_phase}
 use Rattle.replay.specs.Days.{Closed}
 use Rattle.replay.specs.Questions.{totals}
@@ -38,8 +38,8 @@ loop-rest-preserved g c =
       midway =
           went_on (ap g.R.ShareOut.gifts v.rule) v.room v.long first.result.«record» v.midway some first.ensures.answer first.ensures.rest turn.ensures.turned
           (c.in_ok-show.ensures
-              ∙ ap (λ b. out ++ bytes_of (shown reply turn.new.lines b (totals (day_of Closed c.board.result.now)))) (c.just_closed-closed.ensures ∙ ap (λ b. is_phase Closed (day_in next).phase && not b) c.is_closed-was_closed.ensures)
-              ∙ ap (λ t. out ++ bytes_of (shown reply turn.new.lines (is_phase Closed (day_in next).phase && not (is_phase Closed (day_in c.loop-rest.stage).phase)) t)) (ap (λ (b : Board). totals (day_of Closed b)) c.board.ensures ∙ totals_in next));
+          ∙ ap (λ b. out ++ bytes_of (shown reply turn.new.lines b (totals (day_of Closed c.board.result.now)))) (c.just_closed-closed.ensures ∙ ap (λ b. is_phase Closed (day_in next).phase && not b) c.is_closed-was_closed.ensures)
+          ∙ ap (λ t. out ++ bytes_of (shown reply turn.new.lines (is_phase Closed (day_in next).phase && not (is_phase Closed (day_in c.loop-rest.stage).phase)) t)) (ap (λ (b : Board). totals (day_of Closed b)) c.board.ensures ∙ totals_in next));
     }
 
 pub returns : goal.returns

@@ -1,0 +1,167 @@
+-- The laws of a day hold of every text.
+use Rattle.std.proofs.Common.{◌≡◌, ℕ, ◌+◌, ◌≤◌, Bool, true, false, cond, not, ◌&&◌, nat_lt, List, [], ◌∷◌, ◌++◌, length, map, Result, Ok, Err, sym, refl, ap, ◌∙◌, subst, append_assoc, arith}
+use Rattle.std.proofs.lemmas.List.{append-nil}
+use Rattle.std.proofs.lemmas.Bool.Decides.{nat_tests}
+use Rattle.std.specs.List.{AllZip}
+use Rattle.market.specs.declared.words.TapeLine.{TapeLine}
+use Rattle.sharing.specs.Shares.{LawfulRule}
+use Rattle.text.specs.declared.fault.LineFault.{LineFault}
+use Rattle.text.specs.declared.printed.Printed.{Printed}
+use Rattle.text.specs.declared.printed.Printed.TheVariants.{Accepted, Tape, Refused, Totals}
+use Rattle.replay.specs.Days.{Day, Phase, Closed, new_day, Rule, Outcome, Answer}
+use Rattle.replay.specs.Days as days
+use Rattle.replay.specs.Calls.{is_phase, handed, step, after_calls}
+use Rattle.replay.specs.Questions.{totals}
+use Rattle.replay.specs.History.{Bare}
+use Rattle.replay.specs.StopsUnseen.{SameLine, Pair, same, loads, enters, Pairs, SameSeen, AllSeen}
+use Rattle.replay.proofs.History.{step_bare}
+use Rattle.playback.specs.declared.call.Call.{Call}
+use Rattle.playback.specs.Stages.{call_of}
+use Rattle.playback.specs.Laws.{ListLaws}
+use Rattle.playback.proofs.Lawful.{list_laws}
+use Rattle.session.specs.Hearing.{heard, calls_among}
+use Rattle.session.specs.Transcripts.{spoken, totals_line, closing, said, said_of, too_long, printed, transcript}
+use Rattle.session.specs.Laws.{calls_of, day_after, with_tape, tape_in, Alike, SamePrinted, equal, on_tape, totalled, TextLaws}
+use Rattle.session.proofs.Phases.{behind, call_phase}
+
+-- a text that is not too long is played
+pub played : (gifts : Rule) (room free : ℕ) (text : List ℕ) → length text ≤ 32768 → transcript gifts room free text ≡ printed gifts room free 1 new_day (heard text)
+played gifts room free text h = ap (λ b. cond b (too_long ∷ []) (printed gifts room free 1 new_day (heard text))) short
+  where
+    short : nat_lt 32768 (length text) ≡ false
+    short = grind (arith, nat_tests)
+
+-- the tape ---------------------------------------------------------------------------------------------------------------
+tape_append : (ps qs : List Printed) → tape_in (ps ++ qs) ≡ tape_in ps ++ tape_in qs
+tape_append [] qs = refl
+tape_append (p ∷ ps) qs = go p (tape_append ps qs)
+  where
+    go : (p : Printed) → tape_in (ps ++ qs) ≡ tape_in ps ++ tape_in qs → with_tape p (tape_in (ps ++ qs)) ≡ with_tape p (tape_in ps) ++ tape_in qs
+    go (Accepted n) e = e
+    go (Tape l) e = ap (λ ls. l ∷ ls) e
+    go (Refused n layer k field) e = e
+    go (Totals a p c o) e = e
+
+tape_spoken : (n : ℕ) (a : Answer) → tape_in (spoken n a) ≡ []
+tape_spoken n days.Done = refl
+tape_spoken n (days.Number k) = refl
+tape_spoken n (days.Lines k) = refl
+tape_spoken n (days.Entered k j) = refl
+tape_spoken n (days.Refused k) = refl
+
+tape_lines : (ls : List TapeLine) → tape_in (map Tape ls) ≡ ls
+tape_lines [] = refl
+tape_lines (l ∷ ls) = ap (λ ks. l ∷ ks) (tape_lines ls)
+
+tape_closing : (f : Phase) (e : Day) → tape_in (closing f e) ≡ []
+tape_closing f e = go (is_phase Closed e.phase && not (is_phase Closed f))
+  where
+    go : (b : Bool) → tape_in (cond b (totals_line (totals e) ∷ []) []) ≡ []
+    go true = refl
+    go false = refl
+
+tape_said : (n : ℕ) (d : Day) (r : Outcome) → tape_in (said n d r) ≡ handed d r.day
+tape_said n d r =
+    tape_append (spoken n r.answer ++ map Tape (handed d r.day)) (closing d.phase r.day)
+    ∙ ap (λ ls. tape_in (spoken n r.answer ++ map Tape (handed d r.day)) ++ ls) (tape_closing d.phase r.day)
+    ∙ append-nil _
+    ∙ tape_append (spoken n r.answer) (map Tape (handed d r.day))
+    ∙ ap (λ ls. ls ++ tape_in (map Tape (handed d r.day))) (tape_spoken n r.answer)
+    ∙ tape_lines (handed d r.day)
+
+tape_printed : (gifts : Rule) (room free n : ℕ) (d : Day) (xs : List (Result Call LineFault))
+    → (after_calls gifts room d (map (call_of free) (calls_among xs))).tape ≡ d.tape ++ tape_in (printed gifts room free n d xs)
+unfolding printed after_calls
+tape_printed gifts room free n d [] = sym (append-nil d.tape)
+tape_printed gifts room free n d (Ok c ∷ xs) =
+    let r : Outcome = step gifts room d (call_of free c) in
+    let s : Bare gifts room d (call_of free c) = step_bare gifts room d (call_of free c) in
+    let later : List Printed = printed gifts room free (n + 1) r.day xs in
+    tape_printed gifts room free (n + 1) r.day xs
+    ∙ ap (λ ls. ls ++ tape_in later) (s.tape ∙ ap (λ ls. d.tape ++ ls) (sym s.lines))
+    ∙ append_assoc d.tape (handed d r.day) (tape_in later)
+    ∙ ap (λ ls. d.tape ++ (ls ++ tape_in later)) (sym (tape_said n d r))
+    ∙ ap (λ ls. d.tape ++ ls) (sym (tape_append (said n d r) later))
+tape_printed gifts room free n d (Err f ∷ xs) = tape_printed gifts room free (n + 1) d xs
+
+taped : (gifts : Rule) (room free : ℕ) (text : List ℕ) → (day_after gifts room free text).tape ≡ tape_in (printed gifts room free 1 new_day (heard text))
+unfolding new_day
+taped gifts room free text = tape_printed gifts room free 1 new_day (heard text)
+
+-- unelected stops --------------------------------------------------------------------------------------------------------
+module _ (gifts : Rule) (N : ℕ → Bool) (room free : ℕ) where
+  pairs_of : (d e : Day) (xs ys : List (Result Call LineFault)) → Alike gifts N room free d e xs ys → Pairs gifts N room d e (map (call_of free) (calls_among xs)) (map (call_of free) (calls_among ys))
+  pairs_of d e [] [] a = tt
+  pairs_of d e [] (y ∷ ys) a = absurd a
+  pairs_of d e (x ∷ xs) [] a = absurd a
+  pairs_of d e (Ok c ∷ xs) (Ok c' ∷ ys) a = (a.0, pairs_of (step gifts room d (call_of free c)).day (step gifts room e (call_of free c')).day xs ys a.1)
+  pairs_of d e (Ok c ∷ xs) (Err f ∷ ys) a = absurd a.0
+  pairs_of d e (Err f ∷ xs) (Ok c ∷ ys) a = absurd a.0
+  pairs_of d e (Err f ∷ xs) (Err f' ∷ ys) a = pairs_of d e xs ys a.1
+
+  pair_phase : {d e : Day} {c c' : days.Call} → Pair N room d e c c' → (f : Phase) → behind f c ≡ behind f c'
+  pair_phase same f = refl
+  pair_phase (loads h) f = refl
+  pair_phase (enters h) f = refl
+
+  zip_append : (ps ps' qs qs' : List Printed) → AllZip (SamePrinted N) ps ps' → AllZip (SamePrinted N) qs qs' → AllZip (SamePrinted N) (ps ++ qs) (ps' ++ qs')
+  zip_append [] [] qs qs' a b = b
+  zip_append [] (p ∷ ps) qs qs' a b = absurd a
+  zip_append (p ∷ ps) [] qs qs' a b = absurd a
+  zip_append (p ∷ ps) (p' ∷ ps') qs qs' a b = (a.0, zip_append ps ps' qs qs' a.1 b)
+
+  zip_equal : (ps : List Printed) → AllZip (SamePrinted N) ps ps
+  zip_equal [] = tt
+  zip_equal (p ∷ ps) = (equal, zip_equal ps)
+
+  zip_tape : (ls ks : List TapeLine) → AllZip (SameLine N) ls ks → AllZip (SamePrinted N) (map Tape ls) (map Tape ks)
+  zip_tape [] [] a = tt
+  zip_tape [] (k ∷ ks) a = absurd a
+  zip_tape (l ∷ ls) [] a = absurd a
+  zip_tape (l ∷ ls) (k ∷ ks) a = (on_tape a.0, zip_tape ls ks a.1)
+
+  zip_closing : (f f' : Phase) (d e : Day) → f ≡ f' → d.phase ≡ e.phase → AllZip (SamePrinted N) (closing f d) (closing f' e)
+  zip_closing f f' d e p q =
+      subst (λ b. AllZip (SamePrinted N) (closing f d) (cond b (totals_line (totals e) ∷ []) [])) ((λ i. is_phase Closed (q i) && not (is_phase Closed (p i)))) (go (is_phase Closed d.phase && not (is_phase Closed f)))
+    where
+      go : (b : Bool) → AllZip (SamePrinted N) (cond b (totals_line (totals d) ∷ []) []) (cond b (totals_line (totals e) ∷ []) [])
+      go true = (totalled, tt)
+      go false = tt
+
+  zip_said : (n : ℕ) (d e : Day) (r r' : Outcome) → d.phase ≡ e.phase → r.day.phase ≡ r'.day.phase → SameSeen N d e r r' → AllZip (SamePrinted N) (said n d r) (said n e r')
+  zip_said n d e r r' p q s =
+      zip_append (spoken n r.answer ++ map Tape (handed d r.day)) (spoken n r'.answer ++ map Tape (handed e r'.day)) _ _
+      (zip_append (spoken n r.answer) (spoken n r'.answer) _ _ (subst (λ a. AllZip (SamePrinted N) (spoken n r.answer) (spoken n a)) s.answer (zip_equal (spoken n r.answer))) (zip_tape (handed d r.day) (handed e r'.day) s.lines))
+      (zip_closing d.phase e.phase r.day r'.day p q)
+
+  zipped : (n : ℕ) (d e : Day) (xs ys : List (Result Call LineFault)) → d.phase ≡ e.phase → Alike gifts N room free d e xs ys
+      → AllSeen gifts N room d e (map (call_of free) (calls_among xs)) (map (call_of free) (calls_among ys)) → AllZip (SamePrinted N) (printed gifts room free n d xs) (printed gifts room free n e ys)
+  unfolding printed
+  zipped n d e [] [] p a s = tt
+  zipped n d e [] (y ∷ ys) p a s = absurd a
+  zipped n d e (x ∷ xs) [] p a s = absurd a
+  zipped n d e (Ok c ∷ xs) (Err f ∷ ys) p a s = absurd a.0
+  zipped n d e (Err f ∷ xs) (Ok c ∷ ys) p a s = absurd a.0
+  zipped n d e (Err f ∷ xs) (Err f' ∷ ys) p a s =
+      zip_append (said_of gifts room free n d (Err f)) (said_of gifts room free n e (Err f')) _ _
+      (subst (λ g. AllZip (SamePrinted N) (said_of gifts room free n d (Err f)) (said_of gifts room free n e (Err g))) a.0 (zip_equal (said_of gifts room free n d (Err f))))
+      (zipped (n + 1) d e xs ys p a.1 s)
+  zipped n d e (Ok c ∷ xs) (Ok c' ∷ ys) p a s =
+      let r : Outcome = step gifts room d (call_of free c) in
+      let r' : Outcome = step gifts room e (call_of free c') in
+      let q : r.day.phase ≡ r'.day.phase = call_phase gifts room d (call_of free c) ∙ ap (λ f. behind f (call_of free c)) p ∙ pair_phase a.0 e.phase ∙ sym (call_phase gifts room e (call_of free c')) in
+      zip_append (said n d r) (said n e r') _ _ (zip_said n d e r r' p q s.0) (zipped (n + 1) r.day r'.day xs ys q a.1 s.1)
+
+-- the laws ---------------------------------------------------------------------------------------------------------------
+pub text_laws : (gifts : Rule) → LawfulRule gifts → (room free : ℕ) (text : List ℕ) → TextLaws gifts room free text
+text_laws gifts h room free text =
+    let laws : ListLaws gifts room (calls_of free text) = list_laws gifts h room (calls_of free text) in
+    record {
+      calls = laws;
+      tape = λ short. ap tape_in (played gifts room free text short) ∙ sym (taped gifts room free text);
+      invisible = λ N text' short short' alike x y.
+          subst (λ ps. AllZip (SamePrinted N) ps (transcript gifts room free text')) (sym (played gifts room free text short))
+          (subst (λ ps. AllZip (SamePrinted N) (printed gifts room free 1 new_day (heard text)) ps) (sym (played gifts room free text' short'))
+          (zipped gifts N room free 1 new_day new_day (heard text) (heard text') refl alike
+          (laws.invisible N (calls_of free text') (pairs_of gifts N room free new_day new_day (heard text) (heard text') alike) x y)));
+    }

@@ -1,0 +1,65 @@
+-- What holds of every text, whatever the rule and the stop file. Assumes nothing.
+use Rattle.std.specs.Prelude.{◌≡◌, ℕ, ◌≤◌, Bool, List, [], ◌∷◌, length, map, Ok, Err, Result}
+use Rattle.std.specs.List.{AllZip}
+use Rattle.market.specs.declared.words.TapeLine.{TapeLine}
+use Rattle.text.specs.declared.fault.LineFault.{LineFault}
+use Rattle.text.specs.declared.printed.Printed.{Printed}
+use Rattle.text.specs.declared.printed.Printed.TheVariants.{Accepted, Tape, Refused, Totals}
+use Rattle.replay.specs.Days.{Day, new_day, Rule}
+use Rattle.replay.specs.Days as days
+use Rattle.replay.specs.Calls.{after_calls}
+use Rattle.replay.specs.StopsUnseen.{SameLine, Pair, Unelected}
+use Rattle.playback.specs.declared.call.Call.{Call}
+use Rattle.playback.specs.Stages.{call_of}
+use Rattle.playback.specs.Laws.{ListLaws}
+use Rattle.session.specs.Hearing.{heard, calls_among}
+use Rattle.session.specs.Transcripts.{day_behind, transcript}
+
+-- the calls that a text holds, performed or refused, where each is lent so many lines
+abbrev pub calls_of : ℕ → List ℕ → List days.Call
+calls_of free text = map (call_of free) (calls_among (heard text))
+
+-- the day after them
+abbrev pub day_after : Rule → ℕ → ℕ → List ℕ → Day
+day_after gifts room free text = after_calls gifts room new_day (calls_of free text)
+
+-- the lines of the tape among what is printed
+abbrev pub with_tape : Printed → List TapeLine → List TapeLine
+with_tape (Accepted n) ls = ls
+with_tape (Tape l) ls = l ∷ ls
+with_tape (Refused n layer k field) ls = ls
+with_tape (Totals a p c o) ls = ls
+
+abbrev pub tape_in : List Printed → List TapeLine
+tape_in [] = []
+tape_in (p ∷ ps) = with_tape p (tape_in ps)
+
+-- Two texts are alike if their lines, one by one, hold the same call or the same fault, or bring in the same stop but for price and shares.
+-- N says which stops differ: each is accepted on both days.
+abbrev pub AlikeLine : (ℕ → Bool) → ℕ → ℕ → Day → Day → Result Call LineFault → Result Call LineFault → Type 0
+AlikeLine N room free d e (Ok c) (Ok c') = Pair N room d e (call_of free c) (call_of free c')
+AlikeLine N room free d e (Ok c) (Err f) = ⊥
+AlikeLine N room free d e (Err f) (Ok c) = ⊥
+AlikeLine N room free d e (Err f) (Err f') = f ≡ f'
+
+abbrev pub Alike : Rule → (ℕ → Bool) → ℕ → ℕ → Day → Day → List (Result Call LineFault) → List (Result Call LineFault) → Type 0
+Alike gifts N room free d e [] [] = Unit {0}
+Alike gifts N room free d e [] (y ∷ ys) = ⊥
+Alike gifts N room free d e (x ∷ xs) [] = ⊥
+Alike gifts N room free d e (x ∷ xs) (y ∷ ys) = AlikeLine N room free d e x y × Alike gifts N room free (day_behind gifts room free d x) (day_behind gifts room free e y) xs ys
+
+-- equal lines, the X lines of one stop that differs, or the totals
+pub data SamePrinted (N : ℕ → Bool) : Printed → Printed → Type 0 where
+  equal : {p : Printed} → SamePrinted N p p
+  on_tape : {l m : TapeLine} → SameLine N l m → SamePrinted N (Tape l) (Tape m)
+  totalled : {a p c o a' p' c' o' : ℕ} → SamePrinted N (Totals a p c o) (Totals a' p' c' o')
+
+pub record TextLaws (gifts : Rule) (room free : ℕ) (text : List ℕ) : Type 0 where
+  -- The laws of a list hold of the calls of the text: unelected stops are invisible; elections, limits, range and waiting are in order; shares add up.
+  pub calls : ListLaws gifts room (calls_of free text)
+  -- The tape that these laws speak of is the one that is printed.
+  pub tape : length text ≤ 32768 → tape_in (transcript gifts room free text) ≡ (day_after gifts room free text).tape
+  -- Unelected stops are invisible in what is printed: of any other text that is alike but for price and shares of stops that neither elects, the same is
+  -- printed, but the shares of those stops' X lines and the totals.
+  pub invisible : (N : ℕ → Bool) (text' : List ℕ) → length text ≤ 32768 → length text' ≤ 32768 → Alike gifts N room free new_day new_day (heard text) (heard text')
+      → Unelected N (day_after gifts room free text) → Unelected N (day_after gifts room free text') → AllZip (SamePrinted N) (transcript gifts room free text) (transcript gifts room free text')
