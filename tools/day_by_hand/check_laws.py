@@ -1,0 +1,413 @@
+#!/usr/bin/env python3
+"""Checks a transcript of the program `day` against the laws of a day: check_laws.py DAYFILE TRANSCRIPT.
+
+It decides no price, no size and nobody's turn: it follows the transcript line by line, moves the orders as the lines
+say, and looks whether the laws hold. Refusals it takes as they come. It says OK, or the transcript's line and the law
+that fails there, and then ends with status 1. It shares no code with simulate.py or with the program.
+"""
+
+from __future__ import annotations
+
+import sys
+from dataclasses import dataclass, field
+from typing import List, NamedTuple, Optional, Tuple
+
+COUNT_OF_FIELDS = {"G": 4, "N": 5, "I": 5, "T": 5, "M": 4, "C": 3, "F": 3, "R": 1, "O": 1, "Z": 1}
+PHASES = {"loading": "GNTO", "trading": "NITMCFRZ", "closed": ""}
+
+# half the width of a range: the highest last sale of a band, then lower and higher value of class 1 and of the others
+WIDTHS = [
+    (999, 5, 10, 5, 10),
+    (2499, 10, 25, 10, 20),
+    (4999, 15, 35, 10, 25),
+    (9999, 35, 75, 25, 50),
+    (14999, 60, 125, 50, 100),
+    (100000, 100, 200, 100, 200),
+]
+
+
+class Broken(Exception):
+    """A law that does not hold, and the line of the transcript where that shows."""
+
+    def __init__(self, line: int, law: str) -> None:
+        super().__init__(line, law)
+        self.line = line
+        self.law = law
+
+
+class Said(NamedTuple):
+    """A line of the transcript."""
+
+    line: int
+    letter: str
+    fields: List[str]
+
+    def numbers(self, count: int) -> List[int]:
+        if len(self.fields) != count or not all(f.isdigit() for f in self.fields):
+            raise Broken(self.line, "a line %s has %d numbers" % (self.letter, count))
+        return [int(f) for f in self.fields]
+
+
+@dataclass
+class Order:
+    number: int
+    letter: str
+    side: str
+    member: int
+    price: int
+    shares: int
+    open: int
+    place: str = "nowhere"
+
+    def takes(self, price: int) -> bool:
+        """Whether a price of the other side is within the order's limit."""
+        if self.letter in "MT":
+            return True
+        return price <= self.price if self.side == "B" else price >= self.price
+
+    def is_reached_by(self, price: int) -> bool:
+        return price >= self.price if self.side == "B" else price <= self.price
+
+    def give_up(self, shares: int) -> None:
+        self.open -= shares
+        if self.open == 0:
+            self.place = "nowhere"
+
+
+@dataclass
+class Transcript:
+    lines: List[Said]
+    at: int = 0
+
+    def next(self) -> Said:
+        if self.at < len(self.lines):
+            return self.lines[self.at]
+        return Said(len(self.lines) + 1, "", [])
+
+    def begins(self, letter: str, first: Optional[int] = None) -> bool:
+        said = self.next()
+        return said.letter == letter and (first is None or said.fields[:1] == [str(first)])
+
+    def take(self) -> Said:
+        said = self.next()
+        self.at += 1
+        return said
+
+    def want(self, letter: str, law: str, *numbers: int) -> Said:
+        """The next line, which has this letter and begins with these numbers by the law."""
+        said = self.next()
+        if said.letter != letter or said.fields[: len(numbers)] != [str(n) for n in numbers]:
+            raise Broken(said.line, "%s (found: %s)" % (law, " ".join([said.letter, *said.fields]) or "the end"))
+        return self.take()
+
+
+def other(side: str) -> str:
+    return "S" if side == "B" else "B"
+
+
+@dataclass
+class Day:
+    transcript: Transcript
+    phase: str = "loading"
+    setting: Tuple[int, str] = (1, "L")
+    last_sale: int = 0
+    range: Tuple[int, int] = (0, 0)  # as a P line shows it
+    is_paused: bool = False
+    orders: List[Order] = field(default_factory=list)
+    line: List[Order] = field(default_factory=list)
+    elected: List[int] = field(default_factory=list)
+    printed: int = 0
+    cancelled: int = 0
+
+    # --- what is seen of the book ---
+
+    def resting(self, side: str) -> List[Order]:
+        found = [o for o in self.orders if o.place == "book" and o.side == side]
+        sign = -1 if side == "B" else 1
+        return sorted(found, key=lambda o: (sign * o.price, o.number))
+
+    def best(self, side: str) -> Optional[int]:
+        return self.resting(side)[0].price if self.resting(side) else None
+
+    def contra(self, order: Order) -> Optional[int]:
+        """The best price that rests on the other side within the order's limit."""
+        best = self.best(other(order.side))
+        return best if best is not None and order.takes(best) else None
+
+    def within_range(self, price: int) -> bool:
+        return self.range == (0, 0) or self.range[0] <= price <= self.range[1]
+
+    def set_range(self) -> None:
+        volume_class, column = self.setting
+        self.range = (0, 0)
+        if self.last_sale:
+            row = next(row for row in WIDTHS if self.last_sale <= row[0])
+            width = row[(1 if volume_class == 1 else 3) + (column == "H")]
+            self.range = (max(1, self.last_sale - width), self.last_sale + width)
+
+    # --- laws of a single line ---
+
+    def check_print(self, runner: Order, is_first: bool) -> int:
+        said = self.transcript.take()
+        _, price, shares, low, high = said.numbers(5)
+        here = said.line
+        if (low, high) != self.range:
+            raise Broken(here, "a print shows the range in force, %d to %d" % self.range)
+        if not self.within_range(price):
+            raise Broken(here, "no print is outside the range that it shows")
+        if not runner.takes(price):
+            raise Broken(here, "no print is beyond its order's limit")
+        if shares == 0 or shares % 100 or shares > runner.open:
+            raise Broken(here, "a print has whole lots, and no more than its order has open")
+        taken = self.take_from_book(runner.side, price, shares, here)
+        if taken[-1] != price or (is_first and taken[0] != price):
+            raise Broken(here, "a print's price is that of the orders that it meets")
+        runner.give_up(shares)
+        best = self.contra(runner)
+        if runner.open and best is not None and (best <= price if runner.side == "B" else best >= price):
+            raise Broken(here, "a print takes all that both sides have at its price or better")
+        self.printed += shares
+        return price
+
+    def take_from_book(self, side: str, price: int, shares: int, here: int) -> List[int]:
+        """Takes a print's shares, best price and lowest number first; the prices of those who gave."""
+        prices, left = [], shares
+        for order in self.resting(other(side)):
+            if left == 0:
+                break
+            if order.price > price if side == "B" else order.price < price:
+                raise Broken(here, "no order gives at a price worse than its own")
+            given = min(left, order.open)
+            order.give_up(given)
+            left -= given
+            prices.append(order.price)
+        if left:
+            raise Broken(here, "a print's shares come from orders that rest on the other side")
+        return prices
+
+    def check_cancellation(self, order: Order) -> None:
+        law = "a cancellation of order %d takes all its %d open shares" % (order.number, order.open)
+        self.transcript.want("X", law, order.number, order.open).numbers(2)
+        self.cancelled += order.open
+        order.give_up(order.open)
+
+    def check_elections(self, price: int) -> None:
+        """Each filed stop that the price reaches is elected now, the lowest number first."""
+        for order in self.orders:
+            if order.place == "file" and order.is_reached_by(price):
+                law = "stop %d is elected by the first price that reaches it, %d, in number order" % (order.number, price)
+                self.transcript.want("E", law, order.number).numbers(1)
+                self.elected.append(order.number)
+                self.join(order)
+
+    def check_no_election(self) -> None:
+        said = self.transcript.next()
+        if said.letter == "E":
+            number = said.numbers(1)[0]
+            twice = number in self.elected
+            raise Broken(said.line, "nobody is elected twice" if twice else "a stop is elected by a price that reaches it, by nothing else")
+
+    def check_quote(self) -> None:
+        bid, offer = self.best("B"), self.best("S")
+        if bid is not None and offer is not None and bid >= offer:
+            raise Broken(self.transcript.next().line, "the best bid is below the best offer after every call (%d, %d)" % (bid, offer))
+
+    # --- runs ---
+
+    def join(self, order: Order) -> None:
+        order.place = "line"
+        self.line.append(order)
+
+    def can_print(self, runner: Order) -> bool:
+        """Whether a print can be of this run: one behind a pause may be of the same order in the next call."""
+        best = self.contra(runner)
+        return runner.open > 0 and best is not None and self.within_range(best)
+
+    def follow_run(self, runner: Order) -> None:
+        prices: List[int] = []
+        while len(prices) < 2 and self.can_print(runner) and self.transcript.begins("P", runner.number):
+            prices.append(self.check_print(runner, not prices))
+        if runner.open:
+            self.follow_residual(runner)
+        else:
+            self.line.remove(runner)
+        for price in prices:
+            self.check_elections(price)
+            self.last_sale = price
+        self.check_no_election()
+        if prices and self.range == (0, 0):
+            self.set_range()
+
+    def follow_residual(self, runner: Order) -> None:
+        best = self.contra(runner)
+        if best is not None and self.within_range(best):
+            law = "order %d does not lock or cross the book within range: it trades" % runner.number
+            raise Broken(self.transcript.next().line, law)
+        self.is_paused = best is not None
+        if self.is_paused and runner.letter != "I":
+            return
+        self.line.remove(runner)
+        if runner.letter == "N":
+            runner.place = "book"
+            self.check_quote()
+        else:
+            self.check_cancellation(runner)
+
+    def follow_line(self) -> None:
+        while self.line and not self.is_paused:
+            self.follow_run(self.line[0])
+
+    # --- calls ---
+
+    def accept(self, letter: str, side: str, numbers: List[int]) -> Order:
+        number = len(self.orders) + 1
+        self.transcript.want("A", "order numbers count up: %d is next" % number, number).numbers(1)
+        price = 0 if letter == "M" else numbers[1]
+        order = Order(number, letter, side, numbers[0], price, numbers[-1], numbers[-1])
+        self.orders.append(order)
+        return order
+
+    def order_comes(self, order: Order) -> None:
+        is_loaded = self.phase == "loading"
+        if order.letter == "T":
+            order.place = "file"
+        elif order.letter == "N" and (is_loaded or self.contra(order) is None):
+            order.place = "book"
+        elif order.letter == "I" and self.is_paused:
+            self.check_cancellation(order)
+        else:
+            self.join(order)
+        self.follow_line()
+
+    def cancel(self, member: int, number: int) -> None:
+        if not 1 <= number <= len(self.orders):
+            raise Broken(self.transcript.next().line, "only an accepted order is cancelled")
+        order = self.orders[number - 1]
+        if order.member != member or order.open == 0:
+            raise Broken(self.transcript.next().line, "only open shares are cancelled, by their own member")
+        self.check_cancellation(order)
+        if order in self.line:
+            self.line.remove(order)
+
+    def floor_trade(self, price: int, shares: int) -> None:
+        said = self.transcript.want("F", "a floor trade has an F line of its price and shares", price, shares)
+        said.numbers(2)
+        bid, offer = self.best("B"), self.best("S")
+        if (bid is not None and price < bid) or (offer is not None and price > offer):
+            raise Broken(said.line, "a floor trade is not outside the quote")
+        self.is_paused = False
+        self.last_sale = price
+        self.set_range()
+        self.check_elections(price)
+        self.check_no_election()
+        self.follow_line()
+
+    def resume(self) -> None:
+        if not self.is_paused:
+            raise Broken(self.transcript.next().line, "Resume is performed in a pause only")
+        self.is_paused = False
+        self.set_range()
+        self.follow_line()
+
+    def close(self) -> None:
+        self.phase = "closed"
+        said = self.transcript.want("Z", "a day that closes has a Z line")
+        accepted, printed, cancelled, left = said.numbers(4)
+        sums = {
+            "accepted": (accepted, sum(o.shares for o in self.orders)),
+            "printed (the sum of P)": (printed, self.printed),
+            "cancelled (the sum of X)": (cancelled, self.cancelled),
+            "open": (left, sum(o.open for o in self.orders)),
+            "accepted = 2 * printed + cancelled + open": (accepted, 2 * printed + cancelled + left),
+        }
+        for what, (shown, right) in sums.items():
+            if shown != right:
+                raise Broken(said.line, "totals: %s is %d, not %d" % (what, right, shown))
+
+    # --- lines of the day file ---
+
+    def follow(self, number: int, text: bytes) -> None:
+        """Follows what was printed for a line of the day file."""
+        if self.transcript.begins("!"):
+            said = self.transcript.next()
+            if said.fields[:1] == [str(number)]:
+                self.check_refusal(self.transcript.take())
+                return
+        self.perform(*self.performed(number, text))
+        self.check_quote()
+
+    def check_refusal(self, said: Said) -> None:
+        if len(said.fields) != 4 or said.fields[1] not in ("T", "S", "M"):
+            raise Broken(said.line, "a refusal has line, layer, number and field")
+
+    def performed(self, number: int, text: bytes) -> Tuple[str, List[str]]:
+        """The letter and fields of a line that was not refused."""
+        here = self.transcript.next().line
+        letter, *fields = text.decode("latin-1").split("\t")
+        if COUNT_OF_FIELDS.get(letter) != len(fields) + 1:
+            raise Broken(here, "day line %d is damaged, so it is refused" % number)
+        sides = {"G": [1], "N": [0], "I": [0], "T": [0], "M": [0]}.get(letter, [])
+        if not all(f.isdigit() for place, f in enumerate(fields) if place not in sides):
+            raise Broken(here, "day line %d is damaged, so it is refused" % number)
+        if letter not in PHASES[self.phase]:
+            raise Broken(here, "day line %d is of another phase, so it is refused" % number)
+        return letter, fields
+
+    def perform(self, letter: str, fields: List[str]) -> None:
+        if letter in "NITM":
+            self.order_comes(self.accept(letter, fields[0], [int(f) for f in fields[1:]]))
+        elif letter == "G":
+            self.setting = (int(fields[0]), fields[1])
+            self.last_sale = int(fields[2])
+        elif letter == "O":
+            self.phase = "trading"
+            self.set_range()
+        else:
+            calls = {"C": self.cancel, "F": self.floor_trade, "R": self.resume, "Z": self.close}
+            calls[letter](*[int(f) for f in fields])
+
+
+def lines_of(data: bytes) -> List[bytes]:
+    lines = data.split(b"\n")
+    return lines[:-1] if lines[-1] == b"" else lines
+
+
+def read_transcript(data: bytes) -> Transcript:
+    if data and not data.endswith(b"\n"):
+        raise Broken(data.count(b"\n") + 1, "every printed line ends with byte 10")
+    lines = [line.decode("latin-1").split("\t") for line in lines_of(data)]
+    return Transcript([Said(number, words[0], words[1:]) for number, words in enumerate(lines, start=1)])
+
+
+def check(day_file: bytes, printed: bytes) -> None:
+    """Raises Broken where a law does not hold."""
+    transcript = read_transcript(printed)
+    if len(day_file) > 32768:
+        said = transcript.want("!", "too long a file is refused whole", 0)
+        if said.fields != ["0", "T", "17", "0"]:
+            raise Broken(said.line, "too long a file is refused by 17")
+        day_file = b""
+    day = Day(transcript)
+    for number, text in enumerate(lines_of(day_file), start=1):
+        day.follow(number, text)
+    left = transcript.next()
+    if left.letter:
+        raise Broken(left.line, "every line belongs to a call that brings it forth")
+
+
+def main(arguments: List[str]) -> int:
+    if len(arguments) != 2:
+        print("usage: check_laws.py DAYFILE TRANSCRIPT", file=sys.stderr)
+        return 2
+    with open(arguments[0], "rb") as day_file, open(arguments[1], "rb") as printed:
+        try:
+            check(day_file.read(), printed.read())
+        except Broken as broken:
+            print("line %d: %s" % (broken.line, broken.law))
+            return 1
+    print("OK")
+    return 0
+
+
+if __name__ == "__main__":
+    raise SystemExit(main(sys.argv[1:]))
