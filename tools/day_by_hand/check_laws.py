@@ -8,11 +8,16 @@ that fails there, and then ends with status 1. It shares no code with simulate.p
 
 from __future__ import annotations
 
+import re
 import sys
 from dataclasses import dataclass, field
 from typing import List, NamedTuple, Optional, Tuple
 
-COUNT_OF_FIELDS = {"G": 4, "N": 5, "I": 5, "T": 5, "M": 4, "C": 3, "F": 3, "R": 1, "O": 1, "Z": 1}
+# the fields behind a letter: v class, u column, l last sale, s side, m member, p price, q shares, o and n of a Cancel
+KINDS = {"G": "vul", "N": "smpq", "I": "smpq", "T": "smpq", "M": "smq", "C": "on", "F": "pq", "R": "", "O": "", "Z": ""}
+NUMBER = re.compile("0|[1-9][0-9]{0,6}")
+WORDS = {"s": re.compile("[BS]"), "u": re.compile("[LH]"), **{kind: NUMBER for kind in "vlmpqon"}}
+BOUNDS = {"v": (1, 3), "l": (0, 100000), "m": (1, 255), "p": (1, 100000), "q": (100, 1000000)}
 PHASES = {"loading": "GNTO", "trading": "NITMCFRZ", "closed": ""}
 
 # half the width of a range: the highest last sale of a band, then lower and higher value of class 1 and of the others
@@ -99,6 +104,13 @@ class Transcript:
         if said.letter != letter or said.fields[: len(numbers)] != [str(n) for n in numbers]:
             raise Broken(said.line, "%s (found: %s)" % (law, " ".join([said.letter, *said.fields]) or "the end"))
         return self.take()
+
+
+def is_in_bounds(kind: str, text: str) -> bool:
+    if kind not in BOUNDS:
+        return True
+    low, high = BOUNDS[kind]
+    return low <= int(text) <= high and (kind != "q" or int(text) % 100 == 0)
 
 
 def other(side: str) -> str:
@@ -344,13 +356,14 @@ class Day:
         """The letter and fields of a line that was not refused."""
         here = self.transcript.next().line
         letter, *fields = text.decode("latin-1").split("\t")
-        if COUNT_OF_FIELDS.get(letter) != len(fields) + 1:
+        if letter not in KINDS or len(KINDS[letter]) != len(fields):
             raise Broken(here, "day line %d is damaged, so it is refused" % number)
-        sides = {"G": [1], "N": [0], "I": [0], "T": [0], "M": [0]}.get(letter, [])
-        if not all(f.isdigit() for place, f in enumerate(fields) if place not in sides):
+        if not all(WORDS[kind].fullmatch(f) for kind, f in zip(KINDS[letter], fields)):
             raise Broken(here, "day line %d is damaged, so it is refused" % number)
         if letter not in PHASES[self.phase]:
             raise Broken(here, "day line %d is of another phase, so it is refused" % number)
+        if not all(is_in_bounds(kind, f) for kind, f in zip(KINDS[letter], fields)):
+            raise Broken(here, "day line %d is out of bounds, so it is refused" % number)
         return letter, fields
 
     def perform(self, letter: str, fields: List[str]) -> None:
