@@ -3,7 +3,7 @@
 
 Of every NAME.day with its NAME.tape in the folder, each line of the transcript is broken in every way below, one at a
 time, and the check has to refuse each. It prints how many of each way were tried and caught, names what slipped
-through, and then ends with status 1. Number and field of a refusal are left alone: the check takes them as they come.
+through, and then ends with status 1. Number and field of a refusal are left alone: the check asks only that its reason holds.
 """
 
 from __future__ import annotations

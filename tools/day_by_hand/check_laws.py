@@ -1,9 +1,9 @@
 #!/usr/bin/env python3
 """Checks a transcript of the program `day` against the laws of a day: check_laws.py DAYFILE TRANSCRIPT.
 
-It decides no price, no size and nobody's turn: it follows the transcript line by line, moves the orders as the lines
-say, and looks whether the laws hold. Refusals it takes as they come. It says OK, or the transcript's line and the law
-that fails there, and then ends with status 1. It shares no code with simulate.py or with the program.
+It decides no price and no size: it follows the transcript line by line, moves the orders as the lines say, and looks
+whether the laws hold. Of a refusal it asks that its reason holds. It says OK, or the transcript's line and the law that
+fails there, and then ends with status 1. It shares no code with simulate.py or with the program.
 """
 
 from __future__ import annotations
@@ -18,6 +18,9 @@ KINDS = {"G": "vul", "N": "smpq", "I": "smpq", "T": "smpq", "M": "smq", "C": "on
 NUMBER = re.compile("0|[1-9][0-9]{0,6}")
 WORDS = {"s": re.compile("[BS]"), "u": re.compile("[LH]"), **{kind: NUMBER for kind in "vlmpqon"}}
 BOUNDS = {"v": (1, 3), "l": (0, 100000), "m": (1, 255), "p": (1, 100000), "q": (100, 1000000)}
+# the letters that a refusal of the market is for, and the field that it finds out of bounds
+REFUSALS = {31: "G", 33: "G", 41: "NITF", 42: "NITMF", 47: "NITM", 43: "NITM", 45: "N", 51: "C", 52: "C", 53: "C", 61: "F", 71: "R"}
+OUT_OF = {31: "v", 33: "l", 41: "p", 42: "q", 47: "m"}
 PHASES = {"loading": "GNTO", "trading": "NITMCFRZ", "closed": ""}
 
 # half the width of a range: the highest last sale of a band, then lower and higher value of class 1 and of the others
@@ -104,6 +107,16 @@ class Transcript:
         if said.letter != letter or said.fields[: len(numbers)] != [str(n) for n in numbers]:
             raise Broken(said.line, "%s (found: %s)" % (law, " ".join([said.letter, *said.fields]) or "the end"))
         return self.take()
+
+
+def split(text: bytes) -> Tuple[str, List[str]]:
+    letter, *fields = text.decode("latin-1").split("\t")
+    return letter, fields
+
+
+def is_well_formed(letter: str, fields: List[str]) -> bool:
+    kinds = KINDS.get(letter)
+    return kinds is not None and len(kinds) == len(fields) and all(WORDS[k].fullmatch(f) for k, f in zip(kinds, fields))
 
 
 def is_in_bounds(kind: str, text: str) -> bool:
@@ -304,8 +317,7 @@ class Day:
     def floor_trade(self, price: int, shares: int) -> None:
         said = self.transcript.want("F", "a floor trade has an F line of its price and shares", price, shares)
         said.numbers(2)
-        bid, offer = self.best("B"), self.best("S")
-        if (bid is not None and price < bid) or (offer is not None and price > offer):
+        if self.is_outside_quote(price):
             raise Broken(said.line, "a floor trade is not outside the quote")
         self.is_paused = False
         self.last_sale = price
@@ -343,22 +355,62 @@ class Day:
         if self.transcript.begins("!"):
             said = self.transcript.next()
             if said.fields[:1] == [str(number)]:
-                self.check_refusal(self.transcript.take())
+                self.check_refusal(self.transcript.take(), text)
                 return
         self.perform(*self.performed(number, text))
         self.check_quote()
 
-    def check_refusal(self, said: Said) -> None:
-        if len(said.fields) != 4 or said.fields[1] not in ("T", "S", "M"):
+    def check_refusal(self, said: Said, text: bytes) -> None:
+        """The reason that a refusal names has to hold; whether an earlier one of the list holds too is not asked."""
+        if len(said.fields) != 4 or not said.fields[2].isdigit():
             raise Broken(said.line, "a refusal has line, layer, number and field")
+        layer, number = said.fields[1], int(said.fields[2])
+        letter, fields = split(text)
+        if layer == "T":
+            has_reason = not is_well_formed(letter, fields)
+        else:
+            has_reason = is_well_formed(letter, fields) and self.has_reason(layer, number, letter, fields)
+        if not has_reason:
+            raise Broken(said.line, "a refusal has its reason: %s %d has none" % (layer, number))
+
+    def has_reason(self, layer: str, number: int, letter: str, fields: List[str]) -> bool:
+        is_of_phase = letter in PHASES[self.phase]
+        if layer == "S":
+            return number == 21 and not is_of_phase
+        if not is_of_phase or letter not in REFUSALS.get(number, ""):
+            return False
+        if number in OUT_OF:
+            return not all(is_in_bounds(kind, f) for kind, f in zip(KINDS[letter], fields) if kind == OUT_OF[number])
+        if letter == "C":
+            return self.is_cancel_refused(number, int(fields[0]), int(fields[1]))
+        if letter == "F":
+            return self.is_outside_quote(int(fields[0]))
+        if letter == "R":
+            return not self.is_paused
+        if number == 43:
+            return len(self.orders) == 512
+        return self.phase == "loading" and self.would_meet(fields[0], int(fields[2]))
+
+    def is_cancel_refused(self, number: int, member: int, order: int) -> bool:
+        is_there = 1 <= order <= len(self.orders)
+        if number == 51 or not is_there:
+            return number == 51 and not is_there
+        found = self.orders[order - 1]
+        return found.member != member if number == 52 else found.open == 0
+
+    def is_outside_quote(self, price: int) -> bool:
+        bid, offer = self.best("B"), self.best("S")
+        return (bid is not None and price < bid) or (offer is not None and price > offer)
+
+    def would_meet(self, side: str, price: int) -> bool:
+        best = self.best(other(side))
+        return best is not None and (best <= price if side == "B" else best >= price)
 
     def performed(self, number: int, text: bytes) -> Tuple[str, List[str]]:
         """The letter and fields of a line that was not refused."""
         here = self.transcript.next().line
-        letter, *fields = text.decode("latin-1").split("\t")
-        if letter not in KINDS or len(KINDS[letter]) != len(fields):
-            raise Broken(here, "day line %d is damaged, so it is refused" % number)
-        if not all(WORDS[kind].fullmatch(f) for kind, f in zip(KINDS[letter], fields)):
+        letter, fields = split(text)
+        if not is_well_formed(letter, fields):
             raise Broken(here, "day line %d is damaged, so it is refused" % number)
         if letter not in PHASES[self.phase]:
             raise Broken(here, "day line %d is of another phase, so it is refused" % number)

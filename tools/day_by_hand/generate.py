@@ -94,8 +94,11 @@ class Writer:
         return self.price(middle - spread, middle) if side == "B" else self.price(middle + 1, middle + 1 + spread)
 
     def limit_price(self, side: str) -> int:
-        """Half of them pass by the quote of the other side, the others rest near it."""
+        """Some join the best of their side, some pass by the quote of the other side, the others rest near it."""
         middle, spread = self.near(), self.market.spread
+        own_best = self.day.best(side)
+        if own_best is not None and self.draw.random() < 0.25:
+            return own_best
         if self.draw.random() < 0.45:
             return self.price(middle, middle + spread) if side == "B" else self.price(middle - spread, middle)
         return self.price(middle - spread, middle - 1) if side == "B" else self.price(middle + 1, middle + spread)
@@ -111,8 +114,11 @@ class Writer:
         self.put("N", side, self.member(), self.limit_price(side), self.size())
 
     def immediate(self) -> None:
+        """Mostly beyond the quote of the other side, so that some sweep up to the range's end."""
         side = self.draw.choice("BS")
-        self.put("I", side, self.member(), self.limit_price(side), self.size())
+        over = self.market.spread * (1 if side == "B" else -1)
+        price = self.near() + over if self.draw.random() < 0.6 else self.limit_price(side)
+        self.put("I", side, self.member(), self.price(price, price), self.size())
 
     def stop(self) -> None:
         side = self.draw.choice("BS")
@@ -122,9 +128,11 @@ class Writer:
         self.put("M", self.draw.choice("BS"), self.member(), min(MOST_SHARES, self.size() * self.draw.randint(1, 3)))
 
     def cancel(self) -> None:
+        """A live order; often one at the best price, whose X line shows what it was filled before."""
         live = [o for o in self.day.roll if o.open]
+        at_best = self.day.resting("B")[:2] + self.day.resting("S")[:2]
         if live:
-            order = self.draw.choice(live)
+            order = self.draw.choice(at_best if at_best and self.draw.random() < 0.5 else live)
             self.put("C", order.member, order.number)
 
     def floor(self) -> None:
@@ -223,7 +231,7 @@ class Writer:
             calls = [self.resume, self.floor, self.limit, self.immediate, self.stop, self.market_order, self.cancel]
             return self.draw.choices(calls, [26, 14, 14, 8, 10, 10, 14])[0]
         calls = [self.limit, self.immediate, self.stop, self.market_order, self.cancel, self.floor, self.book_both_sides]
-        return self.draw.choices(calls, [26, 10, 20, 16, 6, 5, 12])[0]
+        return self.draw.choices(calls, [28, 12, 20, 14, 10, 4, 10])[0]
 
     def write(self) -> str:
         self.load()
