@@ -3,7 +3,7 @@
 
 Of every NAME.day with its NAME.tape in the folder, each line of the transcript is broken in every way below, one at a
 time, and the check has to refuse each. It prints how many of each way were tried and caught, names what slipped
-through, and then ends with status 1. Number and field of a refusal are left alone: the check asks only that its reason holds.
+through, and then ends with status 1. The number of a refusal is left alone: more than one reason may hold.
 """
 
 from __future__ import annotations
@@ -36,9 +36,9 @@ def steps_of(letter: str, place: int) -> List[int]:
 
 def numbers_changed(lines: List[str], at: int) -> Iterator[Wrong]:
     letter, *fields = lines[at].split("\t")
-    if letter == "!":
-        return
     for place, value in enumerate(fields, start=1):
+        if letter == "!" and place in (2, 3):
+            continue
         for step in steps_of(letter, place):
             if int(value) + step >= 0:
                 yield Wrong("%s: field %d changed" % (letter, place), at, with_field(lines, at, place, int(value) + step))
@@ -65,6 +65,7 @@ def wrongs(lines: List[str]) -> Iterator[Wrong]:
     for at, line in enumerate(lines):
         letter = line[0]
         yield Wrong(letter + ": dropped", at, lines[:at] + lines[at + 1 :])
+        yield Wrong("a line that is empty", at, lines[: at + 1] + [""] + lines[at + 1 :])
         yield Wrong(letter + ": doubled", at, lines[: at + 1] + lines[at:])
         if at + 1 < len(lines) and lines[at + 1] != line:
             yield Wrong(letter + ": after the next line", at, lines[:at] + [lines[at + 1], line] + lines[at + 2 :])

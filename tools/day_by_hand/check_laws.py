@@ -15,12 +15,15 @@ from typing import List, NamedTuple, Optional, Tuple
 
 # the fields behind a letter: v class, u column, l last sale, s side, m member, p price, q shares, o and n of a Cancel
 KINDS = {"G": "vul", "N": "smpq", "I": "smpq", "T": "smpq", "M": "smq", "C": "on", "F": "pq", "R": "", "O": "", "Z": ""}
+PRINTED = re.compile("0|[1-9][0-9]*")
 NUMBER = re.compile("0|[1-9][0-9]{0,6}")
 WORDS = {"s": re.compile("[BS]"), "u": re.compile("[LH]"), **{kind: NUMBER for kind in "vlmpqon"}}
 BOUNDS = {"v": (1, 3), "l": (0, 100000), "m": (1, 255), "p": (1, 100000), "q": (100, 1000000)}
 # the letters that a refusal of the market is for, and the field that it finds out of bounds
-REFUSALS = {31: "G", 33: "G", 41: "NITF", 42: "NITMF", 47: "NITM", 43: "NITM", 45: "N", 51: "C", 52: "C", 53: "C", 61: "F", 71: "R"}
+REFUSALS = {31: "G", 33: "G", 41: "NITF", 42: "NITMF", 43: "NITM", 45: "N", 47: "NITM"}
+REFUSALS.update({51: "C", 52: "C", 53: "C", 61: "F", 71: "R"})
 OUT_OF = {31: "v", 33: "l", 41: "p", 42: "q", 47: "m"}
+MOST_ORDERS = 512
 PHASES = {"loading": "GNTO", "trading": "NITMCFRZ", "closed": ""}
 
 # half the width of a range: the highest last sale of a band, then lower and higher value of class 1 and of the others
@@ -51,7 +54,7 @@ class Said(NamedTuple):
     fields: List[str]
 
     def numbers(self, count: int) -> List[int]:
-        if len(self.fields) != count or not all(f.isdigit() for f in self.fields):
+        if len(self.fields) != count or not all(PRINTED.fullmatch(f) for f in self.fields):
             raise Broken(self.line, "a line %s has %d numbers" % (self.letter, count))
         return [int(f) for f in self.fields]
 
@@ -114,9 +117,17 @@ def split(text: bytes) -> Tuple[str, List[str]]:
     return letter, fields
 
 
-def is_well_formed(letter: str, fields: List[str]) -> bool:
-    kinds = KINDS.get(letter)
-    return kinds is not None and len(kinds) == len(fields) and all(WORDS[k].fullmatch(f) for k, f in zip(kinds, fields))
+def fault_of(letter: str, fields: List[str]) -> Optional[Tuple[int, int]]:
+    """The refusal's number and field of a damaged line."""
+    if letter not in KINDS:
+        return 11, 0
+    kinds = KINDS[letter]
+    if len(kinds) != len(fields):
+        return 12, 0
+    bad = [place for place, (kind, f) in enumerate(zip(kinds, fields)) if not WORDS[kind].fullmatch(f)]
+    if not bad:
+        return None
+    return (14 if kinds[bad[0]] in "su" else 13), bad[0] + 2
 
 
 def is_in_bounds(kind: str, text: str) -> bool:
@@ -230,12 +241,14 @@ class Day:
         if said.letter == "E":
             number = said.numbers(1)[0]
             twice = number in self.elected
-            raise Broken(said.line, "nobody is elected twice" if twice else "a stop is elected by a price that reaches it, by nothing else")
+            law = "nobody is elected twice" if twice else "a stop is elected by a price that reaches it, by nothing else"
+            raise Broken(said.line, law)
 
     def check_quote(self) -> None:
         bid, offer = self.best("B"), self.best("S")
         if bid is not None and offer is not None and bid >= offer:
-            raise Broken(self.transcript.next().line, "the best bid is below the best offer after every call (%d, %d)" % (bid, offer))
+            law = "the best bid is below the best offer after every call (%d, %d)" % (bid, offer)
+            raise Broken(self.transcript.next().line, law)
 
     # --- runs ---
 
@@ -362,22 +375,23 @@ class Day:
 
     def check_refusal(self, said: Said, text: bytes) -> None:
         """The reason that a refusal names has to hold; whether an earlier one of the list holds too is not asked."""
-        if len(said.fields) != 4 or not said.fields[2].isdigit():
+        if len(said.fields) != 4:
             raise Broken(said.line, "a refusal has line, layer, number and field")
-        layer, number = said.fields[1], int(said.fields[2])
+        layer, number, field_place = said.fields[1:]
         letter, fields = split(text)
-        if layer == "T":
-            has_reason = not is_well_formed(letter, fields)
+        fault = fault_of(letter, fields)
+        if fault:
+            is_right = (layer, number, field_place) == ("T", *map(str, fault))
         else:
-            has_reason = is_well_formed(letter, fields) and self.has_reason(layer, number, letter, fields)
-        if not has_reason:
-            raise Broken(said.line, "a refusal has its reason: %s %d has none" % (layer, number))
+            is_right = field_place == "0" and number.isdigit() and self.has_reason(layer, int(number), letter, fields)
+        if not is_right:
+            raise Broken(said.line, "a refusal has its reason: %s %s %s has none" % (layer, number, field_place))
 
     def has_reason(self, layer: str, number: int, letter: str, fields: List[str]) -> bool:
         is_of_phase = letter in PHASES[self.phase]
         if layer == "S":
             return number == 21 and not is_of_phase
-        if not is_of_phase or letter not in REFUSALS.get(number, ""):
+        if layer != "M" or not is_of_phase or letter not in REFUSALS.get(number, ""):
             return False
         if number in OUT_OF:
             return not all(is_in_bounds(kind, f) for kind, f in zip(KINDS[letter], fields) if kind == OUT_OF[number])
@@ -388,7 +402,7 @@ class Day:
         if letter == "R":
             return not self.is_paused
         if number == 43:
-            return len(self.orders) == 512
+            return len(self.orders) == MOST_ORDERS
         return self.phase == "loading" and self.would_meet(fields[0], int(fields[2]))
 
     def is_cancel_refused(self, number: int, member: int, order: int) -> bool:
@@ -410,7 +424,7 @@ class Day:
         """The letter and fields of a line that was not refused."""
         here = self.transcript.next().line
         letter, fields = split(text)
-        if not is_well_formed(letter, fields):
+        if fault_of(letter, fields):
             raise Broken(here, "day line %d is damaged, so it is refused" % number)
         if letter not in PHASES[self.phase]:
             raise Broken(here, "day line %d is of another phase, so it is refused" % number)
@@ -455,9 +469,8 @@ def check(day_file: bytes, printed: bytes) -> None:
     day = Day(transcript)
     for number, text in enumerate(lines_of(day_file), start=1):
         day.follow(number, text)
-    left = transcript.next()
-    if left.letter:
-        raise Broken(left.line, "every line belongs to a call that brings it forth")
+    if transcript.at < len(transcript.lines):
+        raise Broken(transcript.next().line, "every line belongs to a call that brings it forth")
 
 
 def main(arguments: List[str]) -> int:

@@ -19,6 +19,8 @@ from simulate import MOST_PRICE, MOST_SHARES, Day, other, replay_line
 MEMBERS = 9  # few, so that a wrong member often is somebody
 FEWEST_LINES, MOST_LINES = 30, 120
 MOST_FILE = 3000
+NO_NUMBERS = ["C\t+1\t2", "F\t010\t100", "M\tB\t1\t-5", "N\tS\t3\t12345678\t100", "T\tB\t\t5\t100", "Z\r", "C\t1\t2\r"]
+TOO_EARLY = ["R", "Z", "C\t1\t1", "F\t0\t0", "M\tB\t1\t100", "I\tB\t0\t5\t100"]
 
 
 class Market(NamedTuple):
@@ -163,14 +165,14 @@ class Writer:
         found: Dict[str, Callable[[], None]] = {
             "11": lambda: self.put(draw.choice(["", "Q\t1", "n\tS\t1\t5\t100", "GG", "\t", " Z"])),
             "12": lambda: self.put(draw.choice(["Z\t", "R\t1", "N\tB\t4\t100", "M\tS\t1\t200\t", "C\t2", "F\t10"])),
-            "13": lambda: self.put(draw.choice(["C\t+1\t2", "F\t010\t100", "M\tB\t1\t-5", "N\tS\t3\t12345678\t100", "T\tB\t\t5\t100", "Z\r", "C\t1\t2\r"])),
+            "13": lambda: self.put(draw.choice(NO_NUMBERS)),
             "14": lambda: self.put(draw.choice(["M\tb\t1\t100", "N\tX\t1\t5\t100", "G\t1\tM\t0", "T\t\t1\t9\t100"])),
             "41": lambda: self.put(self.order_letter(), "B", self.member(), draw.choice([0, 100001, 9999999]), self.size()),
             "42": lambda: self.put(self.order_letter(), "S", self.member(), self.near(), draw.choice([0, 50, 150, 1000100])),
             "47": lambda: self.put(self.order_letter(), "S", draw.choice([0, 256, 263]), self.near(), self.size()),
         }
         if day.phase == "loading":
-            found["21"] = lambda: self.put(*draw.choice([("R",), ("Z",), ("C", 1, 1), ("F", 0, 0), ("M", "B", 1, 100), ("I", "B", 0, 5, 100)]))
+            found["21"] = lambda: self.put(draw.choice(TOO_EARLY))
             found["31"] = lambda: self.put("G", draw.choice([0, 4, 258]), "L", 100)
             found["33"] = lambda: self.put("G", 2, "H", draw.choice([100001, 9999999]))
             side = draw.choice("BS")
