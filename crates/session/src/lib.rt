@@ -1,6 +1,7 @@
 // A day in text: reads its lines, puts their calls to a new day, and says what is printed of it.
 #![tactic(auto)]
 
+pub mod day;
 pub mod fault;
 mod hearing;
 mod showing;
