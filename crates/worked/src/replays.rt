@@ -1,4 +1,7 @@
 // A session is replayed under both rules and with both stop files, and a line is printed of it.
+ghost use Rattle.std.specs.Prelude.{IfOk};
+ghost use Rattle.worked.specs.Alike.{Alike};
+
 use crate::compare::{is_as_expected, is_same, prints_alike};
 use crate::sessions::{Row, Session};
 use market::words::{Side, Stop, TapeLine};
@@ -37,12 +40,14 @@ struct Both {
     price: Report,
 }
 
-// The lines suffice for any call.
+// The lines suffice for any call. Whatever the rule and the calls, the same is seen with either file.
 fn replay_both<R: ShareOut + Drop + Copy>(
     heap: Global,
     rule: R,
     calls: &[Call],
-) -> Result<Both, AllocError> {
+) -> Result<Both, AllocError>
+    ensures { IfOk result (λ both. Alike both.arrival both.price) }
+{
     let mut slots = [NO_STOP; 512];
     let mut lines = [NO_LINE; 2049];
     let arrival = replay(heap, rule, ArrivalFile::new(&mut slots), calls, &mut lines)?;
