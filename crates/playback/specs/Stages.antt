@@ -1,5 +1,6 @@
 -- The calls of a list, and the day that a stage stands for. Assumes nothing.
-use Rattle.std.specs.Prelude.{ℕ}
+use Rattle.std.specs.Prelude.{◌≡◌, ℕ, List}
+use Rattle.market.specs.declared.words.TapeLine.{TapeLine}
 use Rattle.trading.specs.declared.board.Board.{Board}
 use Rattle.trading.specs.Boards.{day_of}
 use Rattle.trading.specs.Deeds.{entering}
@@ -42,3 +43,15 @@ module _ {R F : Type 0} {g : _} where
   file_in (Load d) = d.file
   file_in (Trade d) = d.file
   file_in (Shut d) = d.file
+
+  -- the call leads the day to its next phase
+  abbrev pub LeadsOn : Call → Stage R F g → Type 0
+  LeadsOn c (Load d) = c ≡ Open
+  LeadsOn c (Trade d) = c ≡ Close
+  LeadsOn c (Shut d) = ⊥
+
+  -- such a call was put to the stage, and altered nothing yet
+  pub record Unmoved (c : Call) (st st' : Stage R F g) (ls ls' : List TapeLine) : Type 0 where
+    pub leads : LeadsOn c st
+    pub stage : st' ≡ st
+    pub lines : ls' ≡ ls

@@ -12,7 +12,6 @@ use crate::call::Call;
 use crate::reply::{Reply, View};
 use crate::report::Report;
 use crate::stage::Stage;
-use crate::stage::steps::Stepped;
 use market::words::TapeLine;
 use sharing::rule::ShareOut;
 use std::alloc::{AllocError, Global};
@@ -38,11 +37,16 @@ pub fn replay<R: ShareOut + Drop, F: StopFile + Drop>(
     let mut stage = Stage::Load(begin(rule, file));
     let mut report = Report::new(heap);
     for call in calls {
-        let Stepped { stage: next, reply } = stage.step(*call, lines);
+        let reply = match stage.put(*call, lines) {
+            Some(reply) => reply,
+            None => {
+                stage = stage.moved();
+                Ok(Reply::Done)
+            }
+        };
         let used = reply.map_or(0, Reply::lines);
-        let view = View::of(next.board());
+        let view = View::of(stage.board());
         report.note(reply, view, &lines[0..used])?;
-        stage = next;
     }
     Ok(report)
 }

@@ -18,10 +18,12 @@ use Rattle.playback.specs.declared.reply.CallRefusal.TheVariants as refusals
 use Rattle.playback.specs.declared.stage.Stage.{Stage}
 use Rattle.playback.specs.declared.stage.Stage.TheVariants.{Load, Trade, Shut}
 use Rattle.playback.specs.Replies.{answer_of, lines_of}
-use Rattle.playback.specs.Stages.{call_of, day_in}
+use Rattle.playback.specs.Stages.{call_of, day_in, rule_in, file_in}
 use Rattle.playback.proofs.Replaying.{told, told_lines, told_tape}
+use Rattle.playback.proofs.Stepping.{Moves, Keeps, led}
+use Rattle.session.specs.declared.fault.Fault.{Fault}
 use Rattle.session.specs.Transcripts.{spoken}
-use Rattle.session.specs.Turns.{reply_to, first_said, lines_in, Turned}
+use Rattle.session.specs.Turns.{reply_to, first_said, lines_in, Turned, LedOn}
 
 -- no number of the market is that of another phase
 market_said : (n : ℕ) (r : Refusal) → first_said (reply_to n (Err (refusals.Market r))) ≡ spoken n (answer_of (Err (refusals.Market r)))
@@ -67,3 +69,20 @@ pub performed : {R F : Type 0} {g : _} {gifts : Rule} {room : ℕ} (n : ℕ) (st
 performed {gifts = gifts} {room = room} n st c r {e = e} {ss = ss} {ls = ls} {ls' = ls'} x =
     subst (λ d. Turned gifts room n d (Ok c) (reply_to n r) e ls ls') (stage_bare st)
     (on_bare n (day_in st) c r (subst (λ d. Did gifts room d (call_of (length ls) c) (answer_of r) e ss ls ls') (sym (stage_bare st)) x))
+
+-- What a line did to a stage in the end, whether its call had its reply at once or the stage was moved.
+module _ {R F : Type 0} {g : _} (gifts : R → Rule) (room : F → ℕ) (stops : F → List Stop) where
+  pub record Turn (n : ℕ) (q : Result Call Fault) (a : Result Reply Fault) (st next : Stage R F g) (ls ls' : List TapeLine) : Type 0 where
+    pub turned : Turned (gifts (rule_in st)) (room (file_in st)) n (day_in st) q a (day_in next) ls ls'
+    pub keeps : Keeps gifts room stops st next
+
+  -- the same by an equal reply and stage
+  pub turn_by : {n : ℕ} {q : Result Call Fault} {a a' : Result Reply Fault} {st next next' : Stage R F g} {ls ls' : List TapeLine} → a' ≡ a → next' ≡ next → Turn n q a st next ls ls' → Turn n q a' st next' ls ls'
+  turn_by {n} {q} {a} {a'} {st} {next} {next'} {ls} {ls'} e f x = subst (λ b. Turn n q b st next' ls ls') (sym e) (subst (λ m. Turn n q a st m ls ls') (sym f) x)
+
+  -- a call that led on
+  pub moved_on : (n : ℕ) (q : Result Call Fault) (st st' next : Stage R F g) {ls ls' : List TapeLine} → LedOn q st st' ls ls' → Moves gifts room stops st' next → Keeps gifts room stops st' next → Turn n q (Ok Done) st next ls ls'
+  moved_on n (Ok c) st st' next u m k =
+      let x = led gifts room stops {next = next} u m k in
+      record { turned = performed n st c (Ok Done) x.did; keeps = x.keeps }
+  moved_on n (Err f) st st' next u m k = absurd u

@@ -13,7 +13,8 @@ use Rattle.playback.specs.declared.call.Call.{Call}
 use Rattle.playback.specs.declared.reply.CallRefusal.{CallRefusal}
 use Rattle.playback.specs.declared.reply.Reply.{Reply}
 use Rattle.playback.specs.declared.reply.Reply.TheVariants.{Done, Number, Lines, Entered}
-use Rattle.playback.specs.Stages.{call_of}
+use Rattle.playback.specs.declared.stage.Stage.{Stage}
+use Rattle.playback.specs.Stages.{call_of, Unmoved}
 use Rattle.session.specs.declared.fault.Cause.TheVariants.{Text}
 use Rattle.session.specs.declared.fault.Fault.{Fault}
 use Rattle.session.specs.Faults.{cause_of, refused}
@@ -68,3 +69,8 @@ Came gifts room n d (Err f) a e ls ls' = Left f d a e ls ls'
 pub record Turned (gifts : Rule) (room n : ℕ) (d : Day) (q : Result Call Fault) (a : Result Reply Fault) (e : Day) (ls ls' : List TapeLine) : Type 0 where
   pub came : Came gifts room n d q a e ls ls'
   pub fits : lines_in a ≤ length ls'
+
+-- the line's call leads the day to its next phase, and altered nothing yet
+abbrev pub LedOn : {R F : Type 0} {g : _} → Result Call Fault → Stage R F g → Stage R F g → List TapeLine → List TapeLine → Type 0
+LedOn (Ok c) st st' ls ls' = Unmoved c st st' ls ls'
+LedOn (Err f) st st' ls ls' = ⊥

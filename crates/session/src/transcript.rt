@@ -9,8 +9,9 @@ ghost use Rattle.session.specs.Transcripts.{too_long, printed, transcript, bytes
 use crate::fault::{Cause, Fault};
 use crate::hearing::first_line;
 use crate::showing::show;
-use crate::turn::{Turn, is_closed, just_closed, take_turn};
+use crate::turn::{is_closed, just_closed, take_turn};
 use market::words::TapeLine;
+use playback::reply::Reply;
 use playback::stage::Stage;
 use sharing::rule::ShareOut;
 use std::alloc::{AllocError, Global};
@@ -49,10 +50,15 @@ fn play<R: ShareOut + Drop, F: StopFile + Drop>(
         line += 1;
         let first = first_line(rest);
         let was_closed = is_closed(&stage);
-        let Turn { stage: next, reply } = take_turn(stage, line, first.record, lines);
-        let closed = just_closed(was_closed, &next);
-        show(out, reply, lines, closed, next.board())?;
-        stage = next;
+        let reply = match take_turn(&mut stage, line, first.record, lines) {
+            Some(reply) => reply,
+            None => {
+                stage = stage.moved();
+                Ok(Reply::Done)
+            }
+        };
+        let closed = just_closed(was_closed, &stage);
+        show(out, reply, lines, closed, stage.board())?;
         rest = first.rest;
     }
     Ok(())

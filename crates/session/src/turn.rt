@@ -1,9 +1,9 @@
 // A line is put to a day: its call is performed, or it is refused by one of the layers.
-ghost use Rattle.std.specs.Prelude.{◌≡◌, ◌&&◌, not};
+ghost use Rattle.std.specs.Prelude.{◌≡◌, ◌&&◌, not, IfSome, IfNone};
 ghost use Rattle.replay.specs.Days.{Loading, Closed};
 ghost use Rattle.replay.specs.Calls.{is_phase};
 ghost use Rattle.playback.specs.Stages.{day_in, rule_in, file_in};
-ghost use Rattle.session.specs.Turns.{asked, reply_to, Turned};
+ghost use Rattle.session.specs.Turns.{asked, reply_to, Turned, LedOn};
 
 use crate::fault::{Cause, Fault};
 use crate::hearing::call_for;
@@ -11,7 +11,6 @@ use market::words::TapeLine;
 use playback::call::Call;
 use playback::reply::{CallRefusal, Reply};
 use playback::stage::Stage;
-use playback::stage::steps::Stepped;
 use sharing::rule::ShareOut;
 use stops::stop_file::StopFile;
 use text::fault::LineFault;
@@ -34,13 +33,6 @@ pub(crate) fn just_closed<R: ShareOut, F: StopFile>(was_closed: bool, stage: &St
     ensures { result ≡ (is_phase Closed (day_in stage.now).phase && not was_closed) }
 {
     is_closed(stage) && !was_closed
-}
-
-// The day after a line, and the reply to its call, or the fault of the layer that refused it.
-#[derive(Drop)]
-pub(crate) struct Turn<R, F: StopFile> {
-    pub(crate) stage: Stage<R, F>,
-    pub(crate) reply: Result<Reply, Fault>,
 }
 
 // The call of a line, or its fault.
@@ -70,27 +62,22 @@ fn reply_to(line: u32, reply: Result<Reply, CallRefusal>) -> Result<Reply, Fault
     })
 }
 
-// Takes a line's turn.
+// Takes a line's turn. A call that leads to the next phase alters nothing and has no reply yet: the stage is to be moved.
 pub(crate) fn take_turn<R: ShareOut, F: StopFile>(
-    stage: Stage<R, F>,
+    stage: &mut Stage<R, F>,
     line: u32,
     read: Result<Record, LineFault>,
     lines: &mut [TapeLine],
-) -> Turn<R, F>
-    ensures turned { Turned (R.ShareOut.gifts (rule_in stage)) (F.StopFile.room (file_in stage)) line (day_in stage) (asked (day_in stage).phase line read) result.reply (day_in result.stage) lines.old lines.new }
-    ensures keeps { (F.StopFile.room (file_in result.stage) ≡ F.StopFile.room (file_in stage)) × (rule_in result.stage ≡ rule_in stage) }
+) -> Option<Result<Reply, Fault>>
+    ensures turned { IfSome result (λ a. Turned (R.ShareOut.gifts (rule_in stage.old)) (F.StopFile.room (file_in stage.old)) line (day_in stage.old) (asked (day_in stage.old).phase line read) a (day_in stage.new) lines.old lines.new) }
+    ensures leads_on { IfNone result (LedOn (asked (day_in stage.old).phase line read) stage.old stage.new lines.old lines.new) }
+    ensures keeps { (F.StopFile.room (file_in stage.new) ≡ F.StopFile.room (file_in stage.old)) × (rule_in stage.new ≡ rule_in stage.old) }
 {
-    match call_in(&stage, line, read) {
+    match call_in(stage, line, read) {
         Ok(call) => {
-            let Stepped { stage, reply } = stage.step(call, lines);
-            Turn {
-                stage,
-                reply: reply_to(line, reply),
-            }
+            let reply = stage.put(call, lines)?;
+            Some(reply_to(line, reply))
         }
-        Err(fault) => Turn {
-            stage,
-            reply: Err(fault),
-        },
+        Err(fault) => Some(Err(fault)),
     }
 }

@@ -1,11 +1,13 @@
 // A call is put to a day; one of another phase is refused.
-ghost use Rattle.std.specs.Prelude.{◌≡◌, ℕ, [], length};
-ghost use Rattle.replay.specs.Days.{Loading, Trading};
+ghost use Rattle.std.specs.Prelude.{◌≡◌, ℕ, List, [], length, IfSome, IfNone};
+ghost use Rattle.market.specs.declared.words.TapeLine.{TapeLine};
+ghost use Rattle.replay.specs.Days.{Loading, Trading, Closed, Done};
 ghost use Rattle.trading.specs.Boards.{day_of};
 ghost use Rattle.trading.specs.Deeds.{Did};
+ghost use Rattle.playback.specs.declared.call.Call.{Call};
 ghost use Rattle.playback.specs.declared.call.Call.TheVariants.{Open, Close};
 ghost use Rattle.playback.specs.Replies.{answer_of};
-ghost use Rattle.playback.specs.Stages.{call_of, day_in, board_in, rule_in, file_in};
+ghost use Rattle.playback.specs.Stages.{call_of, day_in, board_in, rule_in, file_in, LeadsOn, Unmoved};
 
 use crate::call::Call;
 use crate::reply::{CallRefusal, Reply};
@@ -15,13 +17,6 @@ use sharing::rule::ShareOut;
 use stops::stop_file::StopFile;
 use trading::board::Board;
 use trading::day::{LoadingDay, TradingDay};
-
-// The day after a call, and what the call answered.
-#[derive(Drop)]
-pub struct Stepped<R, F: StopFile> {
-    pub stage: Stage<R, F>,
-    pub reply: Result<Reply, CallRefusal>,
-}
 
 // A call on a loading day that stays one.
 fn load<R: ShareOut, F: StopFile>(
@@ -87,40 +82,36 @@ impl<R: ShareOut, F: StopFile> Stage<R, F> {
         }
     }
 
-    // Puts a call to the day.
-    pub fn step(self, call: Call, tape: &mut [TapeLine]) -> Stepped<R, F>
-        ensures did { Did (R.ShareOut.gifts (rule_in self)) (F.StopFile.room (file_in self)) (day_in self) (call_of (length tape.old) call) (answer_of result.reply) (day_in result.stage) (F.StopFile.stops (file_in result.stage)) tape.old tape.new }
-        ensures keeps { (F.StopFile.room (file_in result.stage) ≡ F.StopFile.room (file_in self)) × (rule_in result.stage ≡ rule_in self) }
+    // Puts a call to the day in place, as a day is large. One that leads to the next phase alters nothing and has no reply yet: `moved`
+    // performs it.
+    pub fn put(&mut self, call: Call, tape: &mut [TapeLine]) -> Option<Result<Reply, CallRefusal>>
+        ensures did { IfSome result (λ r. Did (R.ShareOut.gifts (rule_in self.old)) (F.StopFile.room (file_in self.old)) (day_in self.old) (call_of (length tape.old) call) (answer_of r) (day_in self.new) (F.StopFile.stops (file_in self.new)) tape.old tape.new) }
+        ensures leads_on { IfNone result (Unmoved call self.old self.new tape.old tape.new) }
+        ensures keeps { (F.StopFile.room (file_in self.new) ≡ F.StopFile.room (file_in self.old)) × (rule_in self.new ≡ rule_in self.old) }
     {
-        match (self, call) {
-            (Stage::Load(day), Call::Open) => Stepped {
-                stage: Stage::Trade(day.open()),
-                reply: Ok(Reply::Done),
+        match self {
+            Stage::Load(day) => match call {
+                Call::Open => None,
+                _ => Some(load(day, call)),
             },
-            (Stage::Trade(day), Call::Close) => Stepped {
-                stage: Stage::Shut(day.close()),
-                reply: Ok(Reply::Done),
+            Stage::Trade(day) => match call {
+                Call::Close => None,
+                _ => Some(trade(day, call, tape)),
             },
-            (Stage::Load(day), call) => {
-                let mut day = day;
-                let reply = load(&mut day, call);
-                Stepped {
-                    stage: Stage::Load(day),
-                    reply,
-                }
-            }
-            (Stage::Trade(day), call) => {
-                let mut day = day;
-                let reply = trade(&mut day, call, tape);
-                Stepped {
-                    stage: Stage::Trade(day),
-                    reply,
-                }
-            }
-            (Stage::Shut(day), _) => Stepped {
-                stage: Stage::Shut(day),
-                reply: Err(CallRefusal::OtherPhase),
-            },
+            Stage::Shut(_) => Some(Err(CallRefusal::OtherPhase)),
+        }
+    }
+
+    // The day in its next phase: the call that leads there is performed. A closed day stays as it is.
+    pub fn moved(self) -> Stage<R, F>
+        ensures did { (call : Call) (ls : List TapeLine) → LeadsOn call self → Did (R.ShareOut.gifts (rule_in self)) (F.StopFile.room (file_in self)) (day_in self) (call_of (length ls) call) Done (day_in result) (F.StopFile.stops (file_in result)) ls ls }
+        ensures stays { (day_in self).phase ≡ Closed → result ≡ self }
+        ensures keeps { (F.StopFile.room (file_in result) ≡ F.StopFile.room (file_in self)) × (rule_in result ≡ rule_in self) }
+    {
+        match self {
+            Stage::Load(day) => Stage::Trade(day.open()),
+            Stage::Trade(day) => Stage::Shut(day.close()),
+            Stage::Shut(day) => Stage::Shut(day),
         }
     }
 }
