@@ -21,7 +21,7 @@ use Rattle.playback.specs.Laws.{ListLaws}
 use Rattle.playback.proofs.Lawful.{list_laws}
 use Rattle.session.specs.Hearing.{heard, calls_among}
 use Rattle.session.specs.Transcripts.{spoken, totals_line, closing, said, said_of, too_long, printed, transcript}
-use Rattle.session.specs.Laws.{calls_of, day_after, with_tape, tape_in, Alike, SamePrinted, equal, on_tape, totalled, TextLaws}
+use Rattle.session.specs.Laws.{calls_of, last_day, with_tape, tape_in, Alike, SamePrinted, equal, on_tape, totalled, TextLaws}
 use Rattle.session.proofs.Phases.{behind, call_phase}
 
 -- a text that is not too long is played
@@ -84,7 +84,7 @@ tape_printed gifts room free n d (Ok c ∷ xs) =
     ∙ ap (λ ls. d.tape ++ ls) (sym (tape_append (said n d r) later))
 tape_printed gifts room free n d (Err f ∷ xs) = tape_printed gifts room free (n + 1) d xs
 
-taped : (gifts : Rule) (room free : ℕ) (text : List ℕ) → (day_after gifts room free text).tape ≡ tape_in (printed gifts room free 1 new_day (heard text))
+taped : (gifts : Rule) (room free : ℕ) (text : List ℕ) → (last_day gifts room free text).tape ≡ tape_in (printed gifts room free 1 new_day (heard text))
 unfolding new_day
 taped gifts room free text = tape_printed gifts room free 1 new_day (heard text)
 

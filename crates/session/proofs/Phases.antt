@@ -18,7 +18,7 @@ use Rattle.playback.specs.Stages.{call_of}
 use Rattle.text.specs.declared.fault.LineFault.{LineFault}
 use Rattle.text.specs.declared.record.Record.{Record}
 use Rattle.text.specs.declared.record.Record.TheVariants as records
-use Rattle.session.specs.Hearing.{call_for, limit_call, stop_call, opened, closed, phase_after, hear, phase_behind}
+use Rattle.session.specs.Hearing.{call_for, limit_call, stop_call, behind_open, behind_close, phase_after, hear, phase_behind}
 use Rattle.session.specs.Transcripts.{day_behind}
 
 -- the phase behind a call
@@ -26,12 +26,12 @@ abbrev pub behind : Phase → Call → Phase
 behind f (days.Set k c p) = f
 behind f (days.LoadLimit s m p q) = f
 behind f (days.LoadStop s m p q) = f
-behind f days.Open = opened f
+behind f days.Open = behind_open f
 behind f (days.Enter k s m p q n) = f
 behind f (days.CancelOrder m n k) = f
 behind f (days.FloorTrade p q n) = f
 behind f (days.Resume n) = f
-behind f days.Close = closed f
+behind f days.Close = behind_close f
 
 behind_limit : (free : ℕ) (f g : Phase) (o : PricedOrder) → behind f (call_of free (limit_call g o)) ≡ f
 behind_limit free f Loading o = refl
@@ -141,20 +141,20 @@ module _ (gifts : Rule) where
       go (Some k) = refl
 
   module _ (room : ℕ) (d : Day) where
-    open_phase : (step gifts room d days.Open).day.phase ≡ opened d.phase
+    open_phase : (step gifts room d days.Open).day.phase ≡ behind_open d.phase
     unfolding step perform checks became centre to
     open_phase = go d.phase refl
       where
-        go : (f : Phase) → d.phase ≡ f → (decided (first_of (not (is_phase Loading f)) 21 None) d (perform gifts d days.Open)).day.phase ≡ opened f
+        go : (f : Phase) → d.phase ≡ f → (decided (first_of (not (is_phase Loading f)) 21 None) d (perform gifts d days.Open)).day.phase ≡ behind_open f
         go Loading e = refl
         go Trading e = e
         go Closed e = e
 
-    close_phase : (step gifts room d days.Close).day.phase ≡ closed d.phase
+    close_phase : (step gifts room d days.Close).day.phase ≡ behind_close d.phase
     unfolding step perform checks became to
     close_phase = go d.phase refl
       where
-        go : (f : Phase) → d.phase ≡ f → (decided (first_of (not (is_phase Trading f)) 21 None) d (perform gifts d days.Close)).day.phase ≡ closed f
+        go : (f : Phase) → d.phase ≡ f → (decided (first_of (not (is_phase Trading f)) 21 None) d (perform gifts d days.Close)).day.phase ≡ behind_close f
         go Loading e = e
         go Trading e = refl
         go Closed e = e

@@ -59,6 +59,7 @@ on_bare {gifts = gifts} {room = room} n d c r {ls = ls} {ls' = ls'} x =
       came = record {
         said = said_first n r ∙ ap (spoken n) x.answer;
         lines = ap (λ k. take k ls') count ∙ ap (take (length t)) x.lines ∙ take-append_seam t (drop (length t) ls);
+        lent = x.lines;
         day = x.day;
       };
       fits = omega (arith, count, ap length x.lines, length-append t (drop (length t) ls));

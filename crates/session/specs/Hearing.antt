@@ -41,15 +41,15 @@ call_for f records.Resume = Resume
 call_for f records.Open = Open
 call_for f records.Close = Close
 
-abbrev pub opened : Phase → Phase
-opened Loading = Trading
-opened Trading = Trading
-opened Closed = Closed
+abbrev pub behind_open : Phase → Phase
+behind_open Loading = Trading
+behind_open Trading = Trading
+behind_open Closed = Closed
 
-abbrev pub closed : Phase → Phase
-closed Loading = Loading
-closed Trading = Closed
-closed Closed = Closed
+abbrev pub behind_close : Phase → Phase
+behind_close Loading = Loading
+behind_close Trading = Closed
+behind_close Closed = Closed
 
 -- only O and Z lead from phase to phase
 abbrev pub phase_after : Phase → Record → Phase
@@ -61,8 +61,8 @@ phase_after f (records.Market s m q) = f
 phase_after f (records.Cancel m n) = f
 phase_after f (records.FloorTrade p q) = f
 phase_after f records.Resume = f
-phase_after f records.Open = opened f
-phase_after f records.Close = closed f
+phase_after f records.Open = behind_open f
+phase_after f records.Close = behind_close f
 
 -- what a line says in a phase, and the phase behind it
 abbrev pub hear : Phase → Result Record LineFault → Result Call LineFault

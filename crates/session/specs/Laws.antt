@@ -19,9 +19,9 @@ use Rattle.session.specs.Transcripts.{day_behind, transcript}
 abbrev pub calls_of : ℕ → List ℕ → List days.Call
 calls_of free text = map (call_of free) (calls_among (heard text))
 
--- the day after them
-abbrev pub day_after : Rule → ℕ → ℕ → List ℕ → Day
-day_after gifts room free text = after_calls gifts room new_day (calls_of free text)
+-- the day after them all
+abbrev pub last_day : Rule → ℕ → ℕ → List ℕ → Day
+last_day gifts room free text = after_calls gifts room new_day (calls_of free text)
 
 -- the lines of the tape among what is printed
 abbrev pub with_tape : Printed → List TapeLine → List TapeLine
@@ -35,7 +35,7 @@ tape_in [] = []
 tape_in (p ∷ ps) = with_tape p (tape_in ps)
 
 -- Two texts are alike if their lines, one by one, hold the same call or the same fault, or bring in the same stop but for price and shares.
--- N says which stops differ: each is accepted on both days.
+-- N says which stops differ: take it for exactly their numbers. Each is accepted on both days.
 abbrev pub AlikeLine : (ℕ → Bool) → ℕ → ℕ → Day → Day → Result Call LineFault → Result Call LineFault → Type 0
 AlikeLine N room free d e (Ok c) (Ok c') = Pair N room d e (call_of free c) (call_of free c')
 AlikeLine N room free d e (Ok c) (Err f) = ⊥
@@ -56,10 +56,11 @@ pub data SamePrinted (N : ℕ → Bool) : Printed → Printed → Type 0 where
 
 pub record TextLaws (gifts : Rule) (room free : ℕ) (text : List ℕ) : Type 0 where
   -- The laws of a list hold of the calls of the text: unelected stops are invisible; elections, limits, range and waiting are in order; shares add up.
+  -- (Those of a text that is too long are never performed.)
   pub calls : ListLaws gifts room (calls_of free text)
   -- The tape that these laws speak of is the one that is printed.
-  pub tape : length text ≤ 32768 → tape_in (transcript gifts room free text) ≡ (day_after gifts room free text).tape
-  -- Unelected stops are invisible in what is printed: of any other text that is alike but for price and shares of stops that neither elects, the same is
-  -- printed, but the shares of those stops' X lines and the totals.
+  pub tape : length text ≤ 32768 → tape_in (transcript gifts room free text) ≡ (last_day gifts room free text).tape
+  -- Unelected stops are invisible in what is printed: of any other text that is alike but for price and shares of stops that both days accept and neither
+  -- elects, the same is printed, but the shares of those stops' X lines and the totals.
   pub invisible : (N : ℕ → Bool) (text' : List ℕ) → length text ≤ 32768 → length text' ≤ 32768 → Alike gifts N room free new_day new_day (heard text) (heard text')
-      → Unelected N (day_after gifts room free text) → Unelected N (day_after gifts room free text') → AllZip (SamePrinted N) (transcript gifts room free text) (transcript gifts room free text')
+      → Unelected N (last_day gifts room free text) → Unelected N (last_day gifts room free text') → AllZip (SamePrinted N) (transcript gifts room free text) (transcript gifts room free text')

@@ -14,7 +14,9 @@ use Rattle.replay.specs.Calls.{is_phase, handed, step}
 use Rattle.replay.specs.Questions.{Totals, totals}
 use Rattle.playback.specs.declared.call.Call.{Call}
 use Rattle.playback.specs.Stages.{call_of}
-use Rattle.session.specs.Hearing.{heard}
+use Rattle.playback.specs.Lent.{lent}
+use Rattle.market.specs.declared.words.TapeLine.{TapeLine}
+use Rattle.session.specs.Hearing.{heard, calls_among}
 
 -- a call of another phase is refused by the session, any other by the market
 abbrev pub layer_of : ℕ → Layer
@@ -61,6 +63,10 @@ module _ (gifts : Rule) (room free : ℕ) where
   -- what is printed of a text
   abbrev pub transcript : List ℕ → List Printed
   transcript text = cond (nat_lt 32768 (length text)) (too_long ∷ []) (printed 1 new_day (heard text))
+
+  -- what the lines that are lent to each call hold in the end
+  abbrev pub lines_after : List ℕ → List TapeLine → List TapeLine
+  lines_after text ls = cond (nat_lt 32768 (length text)) ls (lent gifts room new_day (map (call_of free) (calls_among (heard text))) ls)
 
 abbrev pub bytes_of : List Printed → List ℕ
 bytes_of [] = []

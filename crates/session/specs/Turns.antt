@@ -15,6 +15,7 @@ use Rattle.playback.specs.declared.reply.Reply.{Reply}
 use Rattle.playback.specs.declared.reply.Reply.TheVariants.{Done, Number, Lines, Entered}
 use Rattle.playback.specs.declared.stage.Stage.{Stage}
 use Rattle.playback.specs.Stages.{call_of, Unmoved}
+use Rattle.playback.specs.Lent.{over}
 use Rattle.session.specs.declared.fault.Cause.TheVariants.{Text}
 use Rattle.session.specs.declared.fault.Fault.{Fault}
 use Rattle.session.specs.Faults.{cause_of, refused}
@@ -51,10 +52,12 @@ lines_in (Err f) = 0
 abbrev pub shown : Result Reply Fault → List TapeLine → Bool → Totals → List Printed
 shown a ls closed t = first_said a ++ map Tape (take (lines_in a) ls) ++ cond closed (totals_line t ∷ []) []
 
--- A call was put to the day: what is said first, the lines and the day after it are those of the definitions. A line at fault altered nothing.
+-- A call was put to the day, performed or refused: what is said first, the lines and the day after it are those of the definitions, and of the lines that
+-- were lent the others are as they were. A line at fault altered nothing.
 pub record Performed (gifts : Rule) (room n : ℕ) (d : Day) (c : Call) (a : Result Reply Fault) (e : Day) (ls ls' : List TapeLine) : Type 0 where
   pub said : first_said a ≡ spoken n (step gifts room d (call_of (length ls) c)).answer
   pub lines : take (lines_in a) ls' ≡ (step gifts room d (call_of (length ls) c)).day.tape
+  pub lent : ls' ≡ over (step gifts room d (call_of (length ls) c)).day.tape ls
   pub day : e ≡ bare (step gifts room d (call_of (length ls) c)).day
 
 pub record Left (f : Fault) (d : Day) (a : Result Reply Fault) (e : Day) (ls ls' : List TapeLine) : Type 0 where

@@ -53,7 +53,7 @@ fn show_totals(out: &mut Vec<u8>, closed: bool, board: &Board) -> Result<(), All
     )
 }
 
-fn lines_of(reply: Result<Reply, Fault>) -> usize
+fn lines_written(reply: Result<Reply, Fault>) -> usize
     ensures { result ≡ lines_in reply }
 {
     reply.map_or(0, Reply::lines)
@@ -72,6 +72,6 @@ pub(crate) fn show(
     ensures { OnOk result (out.new.items ≡ out.old.items ++ bytes_of (shown reply lines.now closed (totals (day_of Closed board.now)))) }
 {
     show_reply(out, reply)?;
-    show_tape(out, &lines[..lines_of(reply)])?;
+    show_tape(out, &lines[..lines_written(reply)])?;
     show_totals(out, closed, board)
 }

@@ -1,10 +1,12 @@
 // Everything that is printed of a text: a new day is begun, and each line is put to it.
-ghost use Rattle.std.specs.Prelude.{◌≡◌, ◌≤◌, ◌++◌, length, IfOk, OnOk};
+ghost use Rattle.std.specs.Prelude.{◌≡◌, ◌≤◌, ◌++◌, map, length, IfOk, OnOk};
 ghost use Rattle.replay.specs.Days.{new_day};
 ghost use Rattle.session.specs.Faults.{refused};
-ghost use Rattle.session.specs.Hearing.{heard};
+ghost use Rattle.playback.specs.Stages.{call_of};
+ghost use Rattle.playback.specs.Lent.{lent};
+ghost use Rattle.session.specs.Hearing.{heard, calls_among};
 ghost use Rattle.session.specs.Laws.{TextLaws};
-ghost use Rattle.session.specs.Transcripts.{too_long, printed, transcript, bytes_of};
+ghost use Rattle.session.specs.Transcripts.{too_long, printed, transcript, lines_after, bytes_of};
 
 use crate::fault::{Cause, Fault};
 use crate::hearing::first_line;
@@ -21,7 +23,7 @@ use text::printed::print_line;
 use text::refusal::Refusal;
 use trading::loading::begin;
 
-// The longest text that is read is refused whole if a byte follows it.
+// A text that is longer than what is read is refused whole.
 fn too_long() -> Fault
     ensures { refused result ≡ too_long }
 {
@@ -41,7 +43,8 @@ fn play<R: ShareOut + Drop, F: StopFile + Drop>(
     text: &[u8],
 ) -> Result<(), AllocError>
     requires { length text.now ≤ 32768 }
-    ensures { OnOk result (out.new.items ≡ out.old.items ++ bytes_of (printed (R.ShareOut.gifts rule) (F.StopFile.room file) (length lines.old) 1 new_day (heard text.now))) }
+    ensures printed { OnOk result (out.new.items ≡ out.old.items ++ bytes_of (printed (R.ShareOut.gifts rule) (F.StopFile.room file) (length lines.old) 1 new_day (heard text.now))) }
+    ensures lines { OnOk result (lines.new ≡ lent (R.ShareOut.gifts rule) (F.StopFile.room file) new_day (map (call_of (length lines.old)) (calls_among (heard text.now))) lines.old) }
 {
     let mut stage = Stage::Load(begin(rule, file));
     let mut rest = text;
@@ -72,7 +75,8 @@ fn print_text<R: ShareOut + Drop, F: StopFile + Drop>(
     lines: &mut [TapeLine],
     text: &[u8],
 ) -> Result<(), AllocError>
-    ensures { OnOk result (out.new.items ≡ out.old.items ++ bytes_of (transcript (R.ShareOut.gifts rule) (F.StopFile.room file) (length lines.old) text.now)) }
+    ensures printed { OnOk result (out.new.items ≡ out.old.items ++ bytes_of (transcript (R.ShareOut.gifts rule) (F.StopFile.room file) (length lines.old) text.now)) }
+    ensures lines { OnOk result (lines.new ≡ lines_after (R.ShareOut.gifts rule) (F.StopFile.room file) (length lines.old) text.now lines.old) }
 {
     if text.len() > INPUT_LIMIT {
         return print_line(out, too_long().printed());
@@ -89,6 +93,7 @@ pub fn transcript<R: ShareOut + Drop, F: StopFile + Drop>(
     text: &[u8],
 ) -> Result<Vec<u8>, AllocError>
     ensures printed { IfOk result (λ v. v.items ≡ bytes_of (transcript (R.ShareOut.gifts rule) (F.StopFile.room file) (length lines.old) text.now)) }
+    ensures lines { OnOk result (lines.new ≡ lines_after (R.ShareOut.gifts rule) (F.StopFile.room file) (length lines.old) text.now lines.old) }
     ensures laws { TextLaws (R.ShareOut.gifts rule) (F.StopFile.room file) (length lines.old) text.now }
 {
     let mut out: Vec<u8> = Vec::new(heap);

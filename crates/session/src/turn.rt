@@ -28,7 +28,7 @@ pub(crate) fn is_closed<R: ShareOut, F: StopFile>(stage: &Stage<R, F>) -> bool
     matches!(stage, Stage::Shut(_))
 }
 
-// Whether a day that was open before has just closed.
+// Whether a day has just closed, which was not closed before.
 pub(crate) fn just_closed<R: ShareOut, F: StopFile>(was_closed: bool, stage: &Stage<R, F>) -> bool
     ensures { result ≡ (is_phase Closed (day_in stage.now).phase && not was_closed) }
 {

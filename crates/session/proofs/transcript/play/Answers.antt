@@ -47,5 +47,8 @@ loop-rest-preserved g c =
           ∙ ap (λ t. out ++ bytes_of (shown reply turn.new.lines (is_phase Closed (day_in next).phase && not (is_phase Closed (day_in st).phase)) t)) (ap (λ (b : Board). totals (day_of Closed b)) c.board.ensures ∙ totals_in next));
     }
 
-pub returns : goal.returns
-returns g c = ended (none_left c.loop-rest.rest.now c.loop-rest-test.ensures) c.loop-rest.invariant.midway
+pub returns-clause-printed : goal.returns-clause-printed
+returns-clause-printed g c = (ended (none_left c.loop-rest.rest.now c.loop-rest-test.ensures) c.loop-rest.invariant.midway).0
+
+pub returns-clause-lines : goal.returns-clause-lines
+returns-clause-lines g c = (ended (none_left c.loop-rest.rest.now c.loop-rest-test.ensures) c.loop-rest.invariant.midway).1
