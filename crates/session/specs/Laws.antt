@@ -48,11 +48,11 @@ Alike gifts N room free d e [] (y ∷ ys) = ⊥
 Alike gifts N room free d e (x ∷ xs) [] = ⊥
 Alike gifts N room free d e (x ∷ xs) (y ∷ ys) = AlikeLine N room free d e x y × Alike gifts N room free (day_behind gifts room free d x) (day_behind gifts room free e y) xs ys
 
--- equal lines, the X lines of one stop that differs, or the totals
+-- equal lines, the X lines of one stop that differs, or totals of the same printed shares
 pub data SamePrinted (N : ℕ → Bool) : Printed → Printed → Type 0 where
   equal : {p : Printed} → SamePrinted N p p
   on_tape : {l m : TapeLine} → SameLine N l m → SamePrinted N (Tape l) (Tape m)
-  totalled : {a p c o a' p' c' o' : ℕ} → SamePrinted N (Totals a p c o) (Totals a' p' c' o')
+  totalled : {a p c o a' c' o' : ℕ} → SamePrinted N (Totals a p c o) (Totals a' p c' o')
 
 pub record TextLaws (gifts : Rule) (room free : ℕ) (text : List ℕ) : Type 0 where
   -- The laws of a list hold of the calls of the text: unelected stops are invisible; elections, limits, range and waiting are in order; shares add up.
@@ -61,6 +61,6 @@ pub record TextLaws (gifts : Rule) (room free : ℕ) (text : List ℕ) : Type 0 
   -- The tape that these laws speak of is the one that is printed.
   pub tape : length text ≤ 32768 → tape_in (transcript gifts room free text) ≡ (last_day gifts room free text).tape
   -- Unelected stops are invisible in what is printed: of any other text that is alike but for price and shares of stops that both days accept and neither
-  -- elects, the same is printed, but the shares of those stops' X lines and the totals.
+  -- elects, the same is printed, but the shares of those stops' X lines and of the totals those that are accepted, cancelled and open.
   pub invisible : (N : ℕ → Bool) (text' : List ℕ) → length text ≤ 32768 → length text' ≤ 32768 → Alike gifts N room free new_day new_day (heard text) (heard text')
       → Unelected N (last_day gifts room free text) → Unelected N (last_day gifts room free text') → AllZip (SamePrinted N) (transcript gifts room free text) (transcript gifts room free text')
