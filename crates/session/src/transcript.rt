@@ -84,7 +84,8 @@ fn print_text<R: ShareOut + Drop, F: StopFile + Drop>(
     play(out, rule, file, lines, text)
 }
 
-// The transcript of a text, for a day with this rule and stop file whose calls are each lent these lines. Want of memory is the one error.
+// The transcript of a text, for a day with this rule and stop file whose calls are each lent these lines. The one error is that for want of
+// memory; nothing is said then of what the lines hold.
 pub fn transcript<R: ShareOut + Drop, F: StopFile + Drop>(
     heap: Global,
     rule: R,

@@ -10,7 +10,7 @@ mod single_calls;
 mod steps;
 
 use crate::replays::{show, show_narrow};
-use crate::sessions::{NARROW, Row, SESSIONS, Session};
+use crate::sessions::{MISTOLD, NARROW, Row, SESSIONS, Session};
 use std::alloc::Global;
 use std::io;
 
@@ -35,5 +35,9 @@ fn main(rt: HostRuntime) -> io::Result<()> {
     let entered = full_roll::entered(heap)?;
     show_full(&rt, heap, "512 orders entered", entered.as_slice())?;
     show_narrow(&rt, heap, &NARROW)?;
-    single_calls::show(&rt)
+    single_calls::show(&rt)?;
+    for session in &MISTOLD {
+        show(&rt, heap, session)?;
+    }
+    Ok(())
 }

@@ -188,6 +188,28 @@ pub(crate) const SESSIONS: [Session<'static>; 4] = [
     },
 ];
 
+// What is expected here is wrong on purpose, in one place each, so that it is seen that a difference is told.
+pub(crate) const MISTOLD: [Session<'static>; 3] = [
+    Session {
+        name: "a wrong answer",
+        rows: &[Row(Open, Refused(21), NoRange)],
+        by_time: &[],
+        by_turns: &[],
+    },
+    Session {
+        name: "a wrong range",
+        rows: &[Row(Open, Done, Going(2000, 2020))],
+        by_time: &[],
+        by_turns: &[],
+    },
+    Session {
+        name: "a wrong tape",
+        rows: &LOTS,
+        by_time: &[F(2000, 100), F(2000, 999_900)],
+        by_turns: &LOTS_TAPE,
+    },
+];
+
 const REFUSALS: [Row; 21] = [
     Row(Limit(Buy, 1, 2000, 100), Refused(21), NoRange),
     Row(Set(4, 'L', 2010), Refused(31), NoRange),
