@@ -56,10 +56,6 @@ floor_refused = resumed_once ++ (FloorTrade 2031 100 lines ∷ [])
 abbrev pub floor_trades : List Call
 floor_trades = resumed_once ++ (FloorTrade 2031 100 lines ∷ FloorTrade 2028 100 lines ∷ [])
 
--- the record of the market buy of 500, with what is filled of it, what is open, and where
-abbrev pub buy_of_500 : ℕ → ℕ → Place → Found
-buy_of_500 f n w = Is (record { number = 7; member = 7; side = Buy; kind = Market; price = 0; accepted = 500; filled = f; cancelled = 0; «open» = n; place = w })
-
 -- the same for a market sell
 abbrev pub sell_swept : List Call
 sell_swept = usual ∷ LoadLimit Sell 1 2012 200 ∷ LoadLimit Buy 2 2008 300 ∷ LoadLimit Buy 3 2007 500 ∷ LoadLimit Buy 4 2005 400 ∷ LoadLimit Buy 5 1990 1000 ∷ Open
@@ -103,6 +99,10 @@ one_row = usual ∷ LoadLimit Sell 1 2012 300 ∷ LoadLimit Sell 1 2012 100 ∷ 
 abbrev pub opens : Rule → List Call → List ℕ
 opens gifts cs = map (λ (o : Order). o.«open») (after_calls gifts 512 new_day cs).roll
 
+-- the record of the market buy of 500 after the sweep, with what is filled of it, what is open, and where
+abbrev pub buy_of_500 : ℕ → ℕ → Place → Found
+buy_of_500 f n w = Is (record { number = 7; member = 7; side = Buy; kind = Market; price = 0; accepted = 500; filled = f; cancelled = 0; «open» = n; place = w })
+
 -- calls that are refused, between some that are not
 abbrev pub faults : List Call
 faults = Set 4 65 100001 ∷ Set 3 65 100001 ∷ Set 3 letter_h 100001 ∷ Set 3 letter_h 100000
@@ -133,7 +133,7 @@ pub record Examples : Type 0 where
   pub out_of_range : tape_of swept_out ≡ Print 6 2012 300 2000 2020 ∷ Print 6 2015 700 2000 2020 ∷ Print 7 2015 200 2000 2020 ∷ []
   pub out_of_range_after : (is_paused (day_of swept_out) ≡ true) × ((day_of swept_out).line ≡ 7 ∷ []) × (in_force (day_of swept_out) ≡ between 2000 2020)
       × (quote Buy (day_of swept_out) ≡ Some (2008, 200)) × (quote Sell (day_of swept_out) ≡ Some (2030, 1000)) × (record_of 8 (day_of swept_out) ≡ NoSuch 51)
-  -- of the order's 500 shares 200 are filled, and 300 wait: nobody else is in line
+  -- of the 500 shares 200 are filled, and 300 wait
   pub out_of_range_order : (record_of 7 (day_of swept_out) ≡ buy_of_500 200 300 Line)
       × (totals (day_of swept_out) ≡ record { accepted = 3900; printed = 1200; cancelled = 0; «open» = 1500 })
   -- Resume sets the range; nobody can trade, and trading is paused again
@@ -141,7 +141,7 @@ pub record Examples : Type 0 where
   -- it writes no line, and the order waits as before
   pub resumed_order : (tape_of resumed_once ≡ Print 6 2012 300 2000 2020 ∷ Print 6 2015 700 2000 2020 ∷ Print 7 2015 200 2000 2020 ∷ []) × ((day_of resumed_once).line ≡ 7 ∷ []) × (record_of 7 (day_of resumed_once) ≡ buy_of_500 200 300 Line)
       × (quote Buy (day_of resumed_once) ≡ Some (2008, 200)) × (quote Sell (day_of resumed_once) ≡ Some (2030, 1000))
-  -- a floor trade that is refused leaves the day as it was
+  -- a floor trade that is refused ends no pause and sets no range
   pub floor_refused_after : (is_paused (day_of floor_refused) ≡ true) × (in_force (day_of floor_refused) ≡ between 2005 2025) × ((day_of floor_refused).line ≡ 7 ∷ [])
       × (record_of 7 (day_of floor_refused) ≡ buy_of_500 200 300 Line) × (quote Sell (day_of floor_refused) ≡ Some (2030, 1000))
   -- a floor trade above the best offer is refused; one below it sets the range, and the order in line runs

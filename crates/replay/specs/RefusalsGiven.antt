@@ -89,5 +89,6 @@ pub record Refusals (room : ℕ) (d : Day) : Type 0 where
   pub lines : (c : Call) → 2049 ≤ free_lines c → refusal (checks room d c) ≢ Some tape_short
 
 pub record RefusalsGiven : Type 0 where
+  -- the causes are those of any day, the rest holds after every list of calls
   pub any_day : (room : ℕ) (d : Day) → Causes room d
   pub of_lists : (gifts : Rule) → LawfulRule gifts → (room : ℕ) (cs : List Call) → Refusals room (after_calls gifts room new_day cs)

@@ -98,7 +98,7 @@ pub fn tape_grows()
     ensures { TapeGrows }
 {}
 
-// A call is refused for a full roll exactly when it brings a good order to 512, and never for want of what there always is.
+// 43, 46 and 32 are given for their own causes alone; with room for 512 stops and 2,049 free lines there is no 46 and no 44.
 pub fn refusals_have_causes()
     ensures { RefusalsGiven }
 {}
