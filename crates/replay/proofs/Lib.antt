@@ -27,3 +27,5 @@ pub mod Beginning
 pub mod History
 pub mod WorkedExamples
 pub mod FileOfRoll
+pub mod Starts
+pub mod Outs

@@ -19,3 +19,4 @@ pub mod Bounds
 pub mod History
 pub mod RollHolds
 pub mod Examples
+pub mod Starts

@@ -11,6 +11,7 @@ ghost use Rattle.replay.specs.Lines.{NeverShort, TapeSuffices, WorkedOff};
 ghost use Rattle.replay.specs.RangeStays.{RangeBegins, RangeStays};
 ghost use Rattle.replay.specs.RollHolds.{RollHolds};
 ghost use Rattle.replay.specs.SharesAddUp.{SharesAddUp};
+ghost use Rattle.replay.specs.Starts.{RunsFollow};
 ghost use Rattle.replay.specs.StopsUnseen.{StopsUnseen};
 ghost use Rattle.replay.specs.TwoRules.{BothRules};
 
@@ -59,12 +60,12 @@ pub fn never_short_of_lines()
     ensures { NeverShort }
 {}
 
-// A range in force stays through a call, and its prints show it.
+// A range in force stays through a call, and its prints show it and lie within it.
 pub fn range_stays()
     ensures { RangeStays }
 {}
 
-// Where no range is in force, the first run that prints shows 0 and 0, and the range then stands round its last print.
+// Where no range is in force, the first run that prints shows 0 and 0; then the range stands round its last print, for all others.
 pub fn range_begins()
     ensures { RangeBegins }
 {}
@@ -87,4 +88,9 @@ pub fn history_is_not_read()
 // Prices, members, class, last sale and range stay within what the market takes.
 pub fn numbers_in_bounds()
     ensures { NumbersInBounds }
+{}
+
+// A performed call is its own start, and then the line worked off.
+pub fn runs_follow()
+    ensures { RunsFollow }
 {}
