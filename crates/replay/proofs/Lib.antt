@@ -29,3 +29,4 @@ pub mod WorkedExamples
 pub mod FileOfRoll
 pub mod Starts
 pub mod Outs
+pub mod OnlyFiled

@@ -40,7 +40,7 @@ pub record Comes (r : Order) (d : Day) : Type 0 where
   pub line : d.line ≡ r.number ∷ behind
 
 module _ (gifts : Rule) where
-  work_rests_on : (d : Day) → Idle d → work gifts d ≡ d
+  pub work_rests_on : (d : Day) → Idle d → work gifts d ≡ d
   unfolding work
   work_rests_on d (inl e) = paused_still gifts (busy d) d e
   work_rests_on d (inr e) = empty gifts (busy d) d e

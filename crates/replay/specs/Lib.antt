@@ -20,3 +20,4 @@ pub mod History
 pub mod RollHolds
 pub mod Examples
 pub mod Starts
+pub mod OnlyFiled

@@ -8,6 +8,7 @@ ghost use Rattle.replay.specs.Elections.{ElectedByFirst, StopsAreFiled};
 ghost use Rattle.replay.specs.Examples.{Examples};
 ghost use Rattle.replay.specs.History.{HistoryUnread};
 ghost use Rattle.replay.specs.Lines.{NeverShort, TapeSuffices, WorkedOff};
+ghost use Rattle.replay.specs.OnlyFiled.{ElectedOnce, OnlyFiledElected};
 ghost use Rattle.replay.specs.RangeStays.{RangeBegins, RangeStays};
 ghost use Rattle.replay.specs.RollHolds.{RollHolds};
 ghost use Rattle.replay.specs.SharesAddUp.{SharesAddUp};
@@ -93,4 +94,14 @@ pub fn numbers_in_bounds()
 // A performed call is its own start, and then the line worked off.
 pub fn runs_follow()
     ensures { RunsFollow }
+{}
+
+// An E line is that of a stop which was in the file before the call, and which an earlier line of the call reached.
+pub fn only_filed_are_elected()
+    ensures { OnlyFiledElected }
+{}
+
+// No order is elected twice in a day.
+pub fn elected_once()
+    ensures { ElectedOnce }
 {}
