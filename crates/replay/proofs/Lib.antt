@@ -30,3 +30,4 @@ pub mod FileOfRoll
 pub mod Starts
 pub mod Outs
 pub mod OnlyFiled
+pub mod Matches

@@ -32,7 +32,8 @@ use Rattle.replay.proofs.Keeps.{Keeps, Moves, run_keeps, always}
 use Rattle.replay.proofs.Turns.{Idle}
 use Rattle.replay.proofs.Idle.{upon, look_alter, look_past, Dealt, look_dealt, counted_look}
 use Rattle.replay.proofs.Elections.{elected_by_first}
-use Rattle.replay.proofs.Starts.{step_start, follows, lists_keep, work_rests_on, sound_after, idle_after}
+use Rattle.replay.proofs.Filing.{work_rests_on}
+use Rattle.replay.proofs.Starts.{step_start, follows, lists_keep, sound_after, idle_after}
 use Rattle.replay.proofs.Outs.{look_elected}
 
 cancel_number : (o : Order) → (cancel o).number ≡ o.number

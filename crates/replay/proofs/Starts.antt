@@ -25,8 +25,8 @@ use Rattle.replay.proofs.Moves.{Waits}
 use Rattle.replay.proofs.Runs.{Sound, Mid, waiter, starts, look_number, elect_sound, turn_sound, centre_sound}
 use Rattle.replay.proofs.Calls.{Checked, checked_limit, checked_stop, checked_enter, checked_set, checked_floor, passed_limit, passed_stop, passed_enter, good_shares, start_held, admit_fresh, same_sound, withdraw_any, step_sound, calls_sound, new_sound}
 use Rattle.replay.proofs.Keeps.{Placed, Keeps}
-use Rattle.replay.proofs.Turns.{Idle, empty}
-use Rattle.replay.proofs.Need.{paused_still}
+use Rattle.replay.proofs.Turns.{Idle}
+use Rattle.replay.proofs.Filing.{work_rests_on}
 use Rattle.replay.proofs.Idle.{step_idle, calls_idle, new_idle}
 
 -- what is known of an order that comes to run
@@ -40,22 +40,17 @@ pub record Comes (r : Order) (d : Day) : Type 0 where
   pub line : d.line ≡ r.number ∷ behind
 
 module _ (gifts : Rule) where
-  pub work_rests_on : (d : Day) → Idle d → work gifts d ≡ d
-  unfolding work
-  work_rests_on d (inl e) = paused_still gifts (busy d) d e
-  work_rests_on d (inr e) = empty gifts (busy d) d e
-
   -- where nobody may run
   still_idle : (c : Call) (d e : Day) → e.paused ≡ d.paused → e.line ≡ d.line → Idle d → e ≡ work gifts e
-  still_idle c d e p l (inl x) = sym (work_rests_on e (inl (p ∙ x)))
-  still_idle c d e p l (inr x) = sym (work_rests_on e (inr (l ∙ x)))
+  still_idle c d e p l (inl x) = sym (work_rests_on gifts e (inl (p ∙ x)))
+  still_idle c d e p l (inr x) = sym (work_rests_on gifts e (inr (l ∙ x)))
 
   comes : (d : Day) (k : Kind) (o : Order) (w : Place) → join_of gifts d.paused k o w d ≡ work gifts (comes_in d.paused k o w d)
   unfolding withdraw admit
   comes d k o w = go d.paused refl k
     where
       go : (b : Bool) → d.paused ≡ b → (k : Kind) → join_of gifts b k o w d ≡ work gifts (comes_in b k o w d)
-      go true e ImmediateOrCancel = sym (work_rests_on (withdraw o.number (admit o Line d)) (inl e))
+      go true e ImmediateOrCancel = sym (work_rests_on gifts (withdraw o.number (admit o Line d)) (inl e))
       go true e Limit = refl
       go true e Market = refl
       go true e Stop = refl
@@ -68,8 +63,8 @@ module _ (gifts : Rule) where
   became_start d (LoadStop s m p q) i = still_idle (LoadStop s m p q) d _ refl refl i
   became_start d Open i = still_idle Open d _ refl refl i
   became_start d (Enter k s m p q f) i = comes d k (fresh k s m p q d.roll) (start_place k (any (is_contra (fresh k s m p q d.roll)) d.roll))
-  became_start d (CancelOrder m n f) (inl x) = sym (work_rests_on (withdraw n d) (inl x))
-  became_start d (CancelOrder m n f) (inr x) = sym (work_rests_on (withdraw n d) (inr (ap (without n) x)))
+  became_start d (CancelOrder m n f) (inl x) = sym (work_rests_on gifts (withdraw n d) (inl x))
+  became_start d (CancelOrder m n f) (inr x) = sym (work_rests_on gifts (withdraw n d) (inr (ap (without n) x)))
   became_start d (FloorTrade p q f) i = refl
   became_start d (Resume f) i = refl
   became_start d Close i = still_idle Close d _ refl refl i

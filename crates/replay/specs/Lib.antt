@@ -21,3 +21,4 @@ pub mod RollHolds
 pub mod Examples
 pub mod Starts
 pub mod OnlyFiled
+pub mod Matches

@@ -8,6 +8,7 @@ ghost use Rattle.replay.specs.Elections.{ElectedByFirst, StopsAreFiled};
 ghost use Rattle.replay.specs.Examples.{Examples};
 ghost use Rattle.replay.specs.History.{HistoryUnread};
 ghost use Rattle.replay.specs.Lines.{NeverShort, TapeSuffices, WorkedOff};
+ghost use Rattle.replay.specs.Matches.{PrintsMatch};
 ghost use Rattle.replay.specs.OnlyFiled.{ElectedOnce, OnlyFiledElected};
 ghost use Rattle.replay.specs.RangeStays.{RangeBegins, RangeStays};
 ghost use Rattle.replay.specs.RollHolds.{RollHolds};
@@ -104,4 +105,9 @@ pub fn only_filed_are_elected()
 // No order is elected twice in a day.
 pub fn elected_once()
     ensures { ElectedOnce }
+{}
+
+// What a P line gives its order, limit orders of the other side give together.
+pub fn prints_match()
+    ensures { PrintsMatch }
 {}
