@@ -31,3 +31,4 @@ pub mod Starts
 pub mod Outs
 pub mod OnlyFiled
 pub mod Matches
+pub mod Pauses

@@ -22,3 +22,4 @@ pub mod Examples
 pub mod Starts
 pub mod OnlyFiled
 pub mod Matches
+pub mod Pauses

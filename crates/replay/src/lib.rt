@@ -10,6 +10,7 @@ ghost use Rattle.replay.specs.History.{HistoryUnread};
 ghost use Rattle.replay.specs.Lines.{NeverShort, TapeSuffices, WorkedOff};
 ghost use Rattle.replay.specs.Matches.{PrintsMatch};
 ghost use Rattle.replay.specs.OnlyFiled.{ElectedOnce, OnlyFiledElected};
+ghost use Rattle.replay.specs.Pauses.{PauseStays, RunsPause};
 ghost use Rattle.replay.specs.RangeStays.{RangeBegins, RangeStays};
 ghost use Rattle.replay.specs.RollHolds.{RollHolds};
 ghost use Rattle.replay.specs.SharesAddUp.{SharesAddUp};
@@ -110,4 +111,14 @@ pub fn elected_once()
 // What a P line gives its order, limit orders of the other side give together.
 pub fn prints_match()
     ensures { PrintsMatch }
+{}
+
+// A run pauses trading exactly when shares of its order are left with an order of the other side within its limit; then the call is over.
+pub fn runs_pause_trading()
+    ensures { RunsPause }
+{}
+
+// A pause stays until a performed floor trade or Resume ends it, and nobody runs in it.
+pub fn pause_stays()
+    ensures { PauseStays }
 {}
