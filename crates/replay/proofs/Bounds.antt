@@ -187,7 +187,7 @@ module _ (gifts : Rule) (lawful : LawfulRule gifts) where
       some_inj : {x y : Order} → Some x ≡ Some y → x ≡ y
       some_inj e = cc
 
-new_bounds : Bounds new_day
+pub new_bounds : Bounds new_day
 unfolding new_day
 new_bounds = record { orders = tt; last = omega arith; class = (omega arith, omega arith); range = tt }
 

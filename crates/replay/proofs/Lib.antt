@@ -32,3 +32,8 @@ pub mod RefusalsGiven
 pub mod Standing
 pub mod Placed
 pub mod Accounts
+pub mod Starts
+pub mod Outs
+pub mod OnlyFiled
+pub mod Matches
+pub mod Pauses

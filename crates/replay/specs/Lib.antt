@@ -23,3 +23,7 @@ pub mod RefusalsGiven
 pub mod Placed
 pub mod Accounts
 pub mod Examples
+pub mod Starts
+pub mod OnlyFiled
+pub mod Matches
+pub mod Pauses

@@ -10,10 +10,14 @@ ghost use Rattle.replay.specs.Examples.{Examples};
 ghost use Rattle.replay.specs.History.{HistoryUnread};
 ghost use Rattle.replay.specs.Lines.{NeverShort, TapeSuffices, WorkedOff};
 ghost use Rattle.replay.specs.Placed.{OpenHasPlace};
+ghost use Rattle.replay.specs.Matches.{PrintsMatch};
+ghost use Rattle.replay.specs.OnlyFiled.{ElectedOnce, OnlyFiledElected};
+ghost use Rattle.replay.specs.Pauses.{PauseStays, RunsPause};
 ghost use Rattle.replay.specs.RangeStays.{RangeBegins, RangeStays};
 ghost use Rattle.replay.specs.RefusalsGiven.{RefusalsGiven};
 ghost use Rattle.replay.specs.RollHolds.{RollHolds};
 ghost use Rattle.replay.specs.SharesAddUp.{SharesAddUp};
+ghost use Rattle.replay.specs.Starts.{RunsFollow};
 ghost use Rattle.replay.specs.StopsUnseen.{StopsUnseen};
 ghost use Rattle.replay.specs.TapeGrows.{TapeGrows};
 ghost use Rattle.replay.specs.TwoRules.{BothRules};
@@ -63,12 +67,12 @@ pub fn never_short_of_lines()
     ensures { NeverShort }
 {}
 
-// A range in force stays through a call, and its prints show it.
+// A range in force stays through a call, and its prints show it and lie within it.
 pub fn range_stays()
     ensures { RangeStays }
 {}
 
-// Where no range is in force, the first run that prints shows 0 and 0, and the range then stands round its last print.
+// Where no range is in force, the first run that prints shows 0 and 0; then the range stands round its last print, for all others.
 pub fn range_begins()
     ensures { RangeBegins }
 {}
@@ -111,4 +115,32 @@ pub fn open_has_place()
 // Every order has whole lots: accepted, filled, cancelled and open.
 pub fn orders_have_whole_lots()
     ensures { Accounts }
+// A performed call is its own start, and then the line worked off.
+pub fn runs_follow()
+    ensures { RunsFollow }
+{}
+
+// An E line is that of a stop which was in the file before the call, and which an earlier line of the call reached.
+pub fn only_filed_are_elected()
+    ensures { OnlyFiledElected }
+{}
+
+// No order is elected twice in a day.
+pub fn elected_once()
+    ensures { ElectedOnce }
+{}
+
+// What a P line gives its order, limit orders of the other side give together.
+pub fn prints_match()
+    ensures { PrintsMatch }
+{}
+
+// A run pauses trading exactly when shares of its order are left with an order of the other side within its limit; then the call is over.
+pub fn runs_pause_trading()
+    ensures { RunsPause }
+{}
+
+// A pause stays until a performed floor trade or Resume ends it, and nobody runs in it.
+pub fn pause_stays()
+    ensures { PauseStays }
 {}
