@@ -115,6 +115,8 @@ pub fn open_has_place()
 // Every order has whole lots: accepted, filled, cancelled and open.
 pub fn orders_have_whole_lots()
     ensures { Accounts }
+{}
+
 // A performed call is its own start, and then the line worked off.
 pub fn runs_follow()
     ensures { RunsFollow }
