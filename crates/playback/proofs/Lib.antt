@@ -1,3 +1,6 @@
 pub mod Stepping
-pub mod Replaying
+pub mod Telling
+pub mod OneMore
+pub mod Noted
+pub mod Placing
 pub mod Lawful
