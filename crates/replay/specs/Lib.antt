@@ -23,3 +23,4 @@ pub mod Starts
 pub mod OnlyFiled
 pub mod Matches
 pub mod Pauses
+pub mod Givers
