@@ -1,15 +1,13 @@
 -- Who gives to a run rested on the other side of the book when it began.
-use Rattle.std.proofs.Common.{◌≡◌, ℕ, zero, suc, ◌-◌, Bool, true, false, cond, ◌&&◌, eqb, List, [], ◌∷◌, ◌++◌, Some, None, Option, sym, refl, ap, ◌∙◌, subst, inl, inr}
-use Rattle.std.proofs.lemmas.Bool.{false≢true}
+use Rattle.std.proofs.Common.{◌≡◌, ℕ, zero, suc, ◌-◌, Bool, true, false, List, [], ◌∷◌, ◌++◌, Some, None, Option, sym, refl, ap, ◌∙◌, subst, inl, inr}
 use Rattle.std.specs.List.{AllByRecursion}
 use Rattle.market.specs.declared.words.Side.{Side}
 use Rattle.market.specs.declared.words.Kind.{Kind}
 use Rattle.market.specs.declared.words.Kind.TheVariants.{Limit, Market, ImmediateOrCancel, Stop}
-use Rattle.market.specs.declared.words.Place.TheVariants.{Nowhere}
 use Rattle.market.specs.declared.words.Order.{Order}
 use Rattle.market.specs.declared.words.Range.{Range}
-use Rattle.market.specs.Sides.{opposite, same_side}
-use Rattle.market.specs.Orders.{rests_on, is_book, fill}
+use Rattle.market.specs.Sides.{opposite}
+use Rattle.market.specs.Orders.{rests_on, fill}
 use Rattle.sharing.specs.Shares.{LawfulRule}
 use Rattle.replay.specs.Lists.{any, beyond}
 use Rattle.replay.specs.Days.{Fill, Day, Rule, new_day}
@@ -21,11 +19,11 @@ use Rattle.replay.specs.Calls.{after_calls}
 use Rattle.replay.specs.Givers.{FromBook, BookGives}
 use Rattle.replay.specs.Starts.{start_of}
 use Rattle.replay.proofs.Lists.{append_append, append_none, beyond_append, all_append}
-use Rattle.replay.proofs.Runs.{Mid, Prints, fill_number}
+use Rattle.replay.proofs.Runs.{turns_sound, rests_on_fill, Mid, Prints, fill_number}
 use Rattle.replay.proofs.Idle.{counted_look}
 use Rattle.replay.proofs.Fills.{all_filled_by}
 use Rattle.replay.proofs.Matches.{gives}
-use Rattle.replay.proofs.Starts.{Comes, start_sound, first_turn, turns_sound, sound_after}
+use Rattle.replay.proofs.Starts.{Comes, start_sound, first_turn, sound_after}
 use Rattle.replay.proofs.Backs.{Back, back_trans, back_alter, back_deal}
 use Rattle.replay.proofs.RunPauses.{printed}
 
@@ -60,13 +58,6 @@ centre_fills None None d = refl
 centre_fills None (Some p) d = refl
 centre_fills (Some g) x d = refl
 
-rests_fill : (c : Side) (q : ℕ) (o : Order) → rests_on c (fill q o) ≡ true → rests_on c o ≡ true
-rests_fill c q o e = go (eqb (o.«open» - q) 0) e
-  where
-    go : (b : Bool) → (is_book (cond b Nowhere o.place) && same_side o.side c) ≡ true → (is_book o.place && same_side o.side c) ≡ true
-    go true e = absurd (false≢true e)
-    go false e = e
-
 module _ (gifts : Rule) (lawful : LawfulRule gifts) (r : Order) (d : Day) where
   abbrev c : Side
   c = opposite r.side
@@ -95,7 +86,7 @@ module _ (gifts : Rule) (lawful : LawfulRule gifts) (r : Order) (d : Day) where
           all_append (FromBook r d) h.0.0 ms h.0.2 (all_filled_by (FromBook r d) q r.number p e.range (taken c p e.range e.roll gs) (λ _. inl refl) (from_book e h.1 p e.range e.roll gs (counted_look 1 e.roll m.counted))),
         ),
         back_trans (rests_on c) d.roll e.roll _ h.1
-            (back_trans (rests_on c) e.roll new _ (back_deal (rests_on c) (rests_fill c) c p e.roll gs) (back_alter (rests_on c) r.number (fill q) new (λ o. fill_number q o) (λ o. rests_fill c q o))),
+            (back_trans (rests_on c) e.roll new _ (back_deal (rests_on c) (rests_on_fill gifts lawful c) c p e.roll gs) (back_alter (rests_on c) r.number (fill q) new (λ o. fill_number q o) (λ o. rests_on_fill gifts lawful c q o))),
       )
 
   pub run_gives : Comes r d → AllByRecursion (FromBook r d) (beyond d.fills (run gifts r d).fills)

@@ -28,11 +28,11 @@ use Rattle.replay.specs.Pauses.{PausedIfLeft, PauseOfRuns, RunsPause}
 use Rattle.replay.proofs.Lists.{append_append, append_none, beyond_append, total_append, total_push}
 use Rattle.replay.proofs.Rolls.{look_same, look_deal}
 use Rattle.replay.proofs.Conservation.{Ready, fits}
-use Rattle.replay.proofs.Runs.{Sound, Mid, Prints, numbers, fill_number, trade_ready, trade_mid, first_prints, next_prints, First, first_is_lem, clear_trade, trade_range}
+use Rattle.replay.proofs.Runs.{Sound, turns_sound, Mid, Prints, numbers, fill_number, trade_ready, trade_mid, first_prints, next_prints, First, first_is_lem, clear_trade, trade_range}
 use Rattle.replay.proofs.Keeps.{Moves, run_keeps}
 use Rattle.replay.proofs.Turns.{Idle, elect_paused, empty, work_idle}
 use Rattle.replay.proofs.Need.{paused_still}
-use Rattle.replay.proofs.Starts.{Comes, step_start, start_sound, first_turn, turns_sound, sound_after, idle_after}
+use Rattle.replay.proofs.Starts.{Comes, step_start, start_sound, first_turn, sound_after, idle_after}
 
 -- which contra orders rest ---------------------------------------------------------------------------------------------------------------------------
 any_map : (t : Order → Bool) (f : Order → Order) (os : List Order) → ((o : Order) → t (f o) ≡ t o) → any t (map f os) ≡ any t os

@@ -207,11 +207,6 @@ module _ (gifts : Rule) (lawful : LawfulRule gifts) where
       lists_keep [] d s t i = i
       lists_keep (c ∷ cs) d s t i = lists_keep cs (step gifts room d c).day (step_sound gifts lawful room d c s) (step_idle gifts lawful room d c s t) (step_keeps d c s t i)
 
-  pub turns_sound : (k : ℕ) (d : Day) → Sound d → Sound (turns gifts k d)
-  unfolding turns
-  turns_sound zero d s = s
-  turns_sound (suc k) d s = turns_sound k (turn gifts d) (turn_sound gifts lawful d s)
-
 -- the day after a list is sound and idle
 pub sound_after : (gifts : Rule) → LawfulRule gifts → (room : ℕ) (cs : List Call) → Sound (after_calls gifts room new_day cs)
 sound_after gifts lawful room cs = calls_sound gifts lawful room cs new_day (new_sound gifts lawful)
