@@ -68,7 +68,7 @@ any_among t (o ∷ os) e = go (t o) refl e (any_among t os)
     go false f e ih = inr (ih e)
 
 -- a price at which somebody rests
-on_book : (w : Place) → is_book w ≡ true → w ≡ Book
+pub on_book : (w : Place) → is_book w ≡ true → w ≡ Book
 on_book Nowhere e = absurd (false≢true e)
 on_book Book e = refl
 on_book Line e = absurd (false≢true e)

@@ -34,6 +34,11 @@ pub mod Placed
 pub mod Accounts
 pub mod Starts
 pub mod Outs
+pub mod FiledBefore
 pub mod OnlyFiled
+pub mod ElectedOnce
 pub mod Matches
+pub mod RunPauses
 pub mod Pauses
+pub mod Backs
+pub mod Givers

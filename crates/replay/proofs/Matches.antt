@@ -3,8 +3,7 @@ use Rattle.std.proofs.Common.{◌≡◌, ℕ, zero, suc, ◌+◌, ◌-◌, ◌<�
 use Rattle.std.proofs.lemmas.Bool.{false≢true, and_parts}
 use Rattle.std.specs.List.{AllZip, AllByRecursion}
 use Rattle.market.specs.declared.words.Side.{Side}
-use Rattle.market.specs.declared.words.Place.{Place}
-use Rattle.market.specs.declared.words.Place.TheVariants.{Nowhere, Book, Line, StopFile}
+use Rattle.market.specs.declared.words.Place.TheVariants.{Book, Line}
 use Rattle.market.specs.declared.words.Order.{Order}
 use Rattle.market.specs.declared.words.Range.{Range}
 use Rattle.market.specs.declared.words.TapeLine.{TapeLine}
@@ -29,7 +28,7 @@ use Rattle.replay.proofs.Calls.{put_number}
 use Rattle.replay.proofs.Keeps.{Keeps, always}
 use Rattle.replay.proofs.Idle.{counted_look}
 use Rattle.replay.proofs.Fills.{Terms, Kept, terms_fill, kept_self, kept_trans, kept_alter, kept_deal, kept_called, kept_push, all_filled_by, taken_sum, cancel_number, cancel_terms, put_terms}
-use Rattle.replay.proofs.Bounds.{bounds_keeps, new_bounds}
+use Rattle.replay.proofs.Bounds.{on_book, bounds_keeps, new_bounds}
 
 some_inj : {x y : Order} → Some x ≡ Some y → x ≡ y
 some_inj e = cc
@@ -81,12 +80,6 @@ no_fills os [] = refl
 no_fills os (n ∷ ns) = no_fills os ns
 
 -- who gives to a print ---------------------------------------------------------------------------------------------------------------------------------
-on_book : (w : Place) → is_book w ≡ true → w ≡ Book
-on_book Nowhere e = absurd (false≢true e)
-on_book Book e = refl
-on_book Line e = absurd (false≢true e)
-on_book StopFile e = absurd (false≢true e)
-
 -- an order that gives anything rests on side c
 pub gives : (c : Side) (p : ℕ) (o : Order) (gs : List ℕ) → 0 < part (is_better c p o) (is_at c p o) o.«open» gs → rests_on c o ≡ true
 gives c p o gs h = go (is_better c p o) (is_at c p o) refl refl h

@@ -12,7 +12,7 @@ use Rattle.market.specs.Bounds.{is_shares, is_class, is_last_sale}
 use Rattle.sharing.specs.Shares.{LawfulRule}
 use Rattle.replay.specs.Lists.{any}
 use Rattle.replay.specs.Days.{Day, Trading, Closed, Rule, Call, Set, LoadLimit, LoadStop, Open, Enter, CancelOrder, FloorTrade, Resume, Close, new_day}
-use Rattle.replay.specs.Rolls.{look, left, fresh}
+use Rattle.replay.specs.Rolls.{look, left, place_of, fresh}
 use Rattle.replay.specs.Book.{is_contra}
 use Rattle.replay.specs.Moves.{withdraw, centre, admit, set_up, to, floored, resumed, without}
 use Rattle.replay.specs.Runs.{run, run_of, turn_of, turn, turns, work, busy, start_place, join_of, join}
@@ -164,6 +164,20 @@ module _ (gifts : Rule) (lawful : LawfulRule gifts) where
           subst (λ z. Q (run_of gifts n z d)) (sym w.1)
           (runs w.0 (record { mid = h.0; some = h.1; on = x; is = subst (λ z. look z d.roll ≡ Some w.0) (sym e) w.1; waits = w.2; behind = ns; line = y ∙ ap (λ z. z ∷ ns) (sym e) }))
 
+  -- the first in line runs, if trading is not paused
+  pub first_turn : (Q : Order → Day → Day → Type 0) → ((r : Order) (d : Day) → Comes r d → Q r d (run gifts r d)) → (d : Day) → Sound d → (n : ℕ) (ns : List ℕ) (r : Order) → d.paused ≡ false → d.line ≡ n ∷ ns → look n d.roll ≡ Some r
+      → Q r d (turn gifts d)
+  unfolding turn
+  first_turn Q runs d s n ns r e l i =
+      let w : Waits d.roll n = (subst (AllByRecursion (Waits d.roll)) l s.line).0 in
+      let p : r.place ≡ Line = ap place_of (sym i) ∙ w in
+      let x : r.number ≡ n = look_number n d.roll r i in
+      let h : Mid r d × (0 < left r.number d.roll) = starts gifts lawful n r d s i p in
+      subst (λ b. Q r d (turn_of gifts b d.line d)) (sym e)
+      (subst (λ xs. Q r d (turn_of gifts false xs d)) (sym l)
+      (subst (λ z. Q r d (run_of gifts n z d)) (sym i)
+      (runs r d (record { mid = h.0; some = h.1; on = e; is = subst (λ m. look m d.roll ≡ Some r) (sym x) i; waits = p; behind = ns; line = l ∙ ap (λ m. m ∷ ns) (sym x) }))))
+
   module _ (I : Day → Type 0) (runs : (r : Order) (d : Day) → Sound d → Comes r d → I d → I (run gifts r d)) where
     pub turns_keep : (k : ℕ) (d : Day) → Sound d → I d → I (turns gifts k d)
     unfolding turns
@@ -192,11 +206,6 @@ module _ (gifts : Rule) (lawful : LawfulRule gifts) where
       unfolding after_calls
       lists_keep [] d s t i = i
       lists_keep (c ∷ cs) d s t i = lists_keep cs (step gifts room d c).day (step_sound gifts lawful room d c s) (step_idle gifts lawful room d c s t) (step_keeps d c s t i)
-
-  pub turns_sound : (k : ℕ) (d : Day) → Sound d → Sound (turns gifts k d)
-  unfolding turns
-  turns_sound zero d s = s
-  turns_sound (suc k) d s = turns_sound k (turn gifts d) (turn_sound gifts lawful d s)
 
 -- the day after a list is sound and idle
 pub sound_after : (gifts : Rule) → LawfulRule gifts → (room : ℕ) (cs : List Call) → Sound (after_calls gifts room new_day cs)

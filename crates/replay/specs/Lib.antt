@@ -27,3 +27,4 @@ pub mod Starts
 pub mod OnlyFiled
 pub mod Matches
 pub mod Pauses
+pub mod Givers

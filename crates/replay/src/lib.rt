@@ -7,6 +7,7 @@ ghost use Rattle.replay.specs.BookInOrder.{BookInOrder};
 ghost use Rattle.replay.specs.Bounds.{NumbersInBounds};
 ghost use Rattle.replay.specs.Elections.{ElectedByFirst, StopsAreFiled};
 ghost use Rattle.replay.specs.Examples.{Examples};
+ghost use Rattle.replay.specs.Givers.{BookGives};
 ghost use Rattle.replay.specs.History.{HistoryUnread};
 ghost use Rattle.replay.specs.Lines.{NeverShort, TapeSuffices, WorkedOff};
 ghost use Rattle.replay.specs.Placed.{OpenHasPlace};
@@ -145,4 +146,9 @@ pub fn runs_pause_trading()
 // A pause stays until a performed floor trade or Resume ends it, and nobody runs in it.
 pub fn pause_stays()
     ensures { PauseStays }
+{}
+
+// Who gives to a run rested on the other side of the book when the run began.
+pub fn book_gives()
+    ensures { BookGives }
 {}

@@ -1,4 +1,4 @@
-use Rattle.replay.proofs.OnlyFiled.{elected_once}
+use Rattle.replay.proofs.ElectedOnce.{elected_once}
 use Rattle.replay.proofs.elected_once.Goals as goal
 
 pub returns : goal.returns
