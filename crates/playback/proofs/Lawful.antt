@@ -11,11 +11,14 @@ use Rattle.replay.proofs.Accounts.{accounts}
 use Rattle.replay.proofs.Bounds.{numbers_in_bounds}
 use Rattle.replay.proofs.Filing.{stops_are_filed}
 use Rattle.replay.proofs.Elections.{elected_by_first}
-use Rattle.replay.proofs.OnlyFiled.{only_filed_elected, elected_once}
+use Rattle.replay.proofs.OnlyFiled.{only_filed_elected}
+use Rattle.replay.proofs.ElectedOnce.{elected_once}
 use Rattle.replay.proofs.Ranges.{range_stays}
 use Rattle.replay.proofs.Beginning.{range_begins}
 use Rattle.replay.proofs.Starts.{runs_follow}
-use Rattle.replay.proofs.Pauses.{runs_pause, pause_stays}
+use Rattle.replay.proofs.RunPauses.{runs_pause}
+use Rattle.replay.proofs.Pauses.{pause_stays}
+use Rattle.replay.proofs.Givers.{book_gives}
 use Rattle.replay.proofs.Need.{tape_suffices}
 use Rattle.replay.proofs.TapeGrows.{call_grows}
 use Rattle.replay.proofs.RefusalsGiven.{refusals}
@@ -27,6 +30,7 @@ call_laws gifts h room cs c = record {
   runs = runs_follow gifts h room cs c;
   range_stays = range_stays gifts h room cs c;
   range_begins = range_begins gifts h room cs c;
+  givers = book_gives gifts h room cs c;
   pauses = runs_pause gifts h room cs c;
   pause_stays = pause_stays gifts h room cs c;
   only_filed = only_filed_elected gifts h room cs c;

@@ -7,12 +7,13 @@ use Rattle.market.specs.declared.words.Range.{Range}
 use Rattle.market.specs.declared.words.TapeLine.{TapeLine}
 use Rattle.replay.specs.Days.{Day, new_day, Call, Rule}
 use Rattle.replay.specs.Rolls.{look, place_of}
-use Rattle.replay.specs.Runs.{work}
+use Rattle.replay.specs.Runs.{turns, work}
 use Rattle.replay.specs.Calls.{refusal, checks, handed, step, after_calls}
 use Rattle.replay.specs.Questions.{totals}
 use Rattle.replay.specs.StopsUnseen.{Pairs, Unelected, AllSeen}
 use Rattle.replay.specs.BookInOrder.{Orderly}
 use Rattle.replay.specs.Matches.{MatchedBy}
+use Rattle.replay.specs.Givers.{GivenFromBook}
 use Rattle.replay.specs.Placed.{Placed}
 use Rattle.replay.specs.Accounts.{WholeLots}
 use Rattle.replay.specs.Bounds.{Bounds}
@@ -48,6 +49,8 @@ pub record CallLaws (gifts : Rule) (room : ℕ) (d : Day) (c : Call) : Type 0 wh
   pub range_stays : (g : Range) → Performs room d c → range_for d c ≡ Some g → Stays g (lines_by gifts room d c) (next_day gifts room d c).range
   pub range_begins : Performs room d c → range_for d c ≡ None
       → (AllByRecursion NoPrint (lines_by gifts room d c) × ((next_day gifts room d c).range ≡ None)) ⊎ Begins d.class d.column (lines_by gifts room d c) (next_day gifts room d c).range
+  -- Each run of it is given shares by orders alone that rested on the other side of the book when the run began.
+  pub givers : Performs room d c → (k : ℕ) → GivenFromBook gifts (turns gifts k (start_of d c))
   -- A run pauses trading exactly when shares and a contra order are left; a pause ends by a floor trade or Resume alone, and nobody runs in it.
   pub pauses : Performs room d c → PauseOfRuns gifts room d c
   pub pause_stays : PauseHolds gifts room d c
