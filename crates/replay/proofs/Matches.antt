@@ -1,6 +1,6 @@
 -- The fills of a print are the runner's, and those of limit orders of the other side.
 use Rattle.std.proofs.Common.{◌≡◌, ℕ, zero, suc, ◌+◌, ◌-◌, ◌<◌, ◌≤◌, Bool, true, false, eqb, List, [], ◌∷◌, ◌++◌, map, Some, Option, sym, refl, ap, ◌∙◌, subst, arith}
-use Rattle.std.proofs.lemmas.Bool.{false≢true, and_parts}
+use Rattle.std.proofs.lemmas.Bool.{false≢true, and_parts, ne_eqb, eqb-true}
 use Rattle.std.specs.List.{AllZip, AllByRecursion}
 use Rattle.market.specs.declared.words.Side.{Side}
 use Rattle.market.specs.declared.words.Place.TheVariants.{Book, Line}
@@ -11,19 +11,19 @@ use Rattle.market.specs.declared.words.TapeLine.TheVariants.{Print, Cancel, Elec
 use Rattle.market.specs.Sides.{opposite, same_side, better}
 use Rattle.market.specs.Orders.{rests_on, is_book, fill, cancel, put}
 use Rattle.sharing.specs.Shares.{LawfulRule}
-use Rattle.replay.specs.Lists.{total, those}
+use Rattle.replay.specs.Lists.{only, total, those}
 use Rattle.replay.specs.Days.{Fill, Day, Rule, new_day}
 use Rattle.replay.specs.Rolls.{look, left, fresh}
 use Rattle.replay.specs.Book.{is_at, is_better, row, ahead}
 use Rattle.replay.specs.Moves.{low_of, high_of, deal, part, after, filled_by, taken, size, trade, leave, withdraw, rest, pause, elect, is_elected, centre, admit, floored, resumed, set_up, to}
 use Rattle.replay.specs.Calls.{after_calls}
 use Rattle.replay.specs.Bounds.{Fine, Bounds}
-use Rattle.replay.specs.Matches.{Against, MatchedBy, PrintsMatch}
+use Rattle.replay.specs.Matches.{Against, fills_of, MatchedBy, PrintsMatch}
 use Rattle.replay.proofs.Lists.{append_append, append_none, all_map}
 use Rattle.replay.proofs.Sharing.{Gift}
 use Rattle.replay.proofs.Rolls.{same_side_lem}
 use Rattle.replay.proofs.Conservation.{Ready, fits, zip, gs_sum}
-use Rattle.replay.proofs.Runs.{Mid, Prints, numbers, fill_number, trade_ready}
+use Rattle.replay.proofs.Runs.{Mid, Prints, Counted, numbers, fill_number, trade_ready}
 use Rattle.replay.proofs.Calls.{put_number}
 use Rattle.replay.proofs.Keeps.{Keeps, always}
 use Rattle.replay.proofs.Idle.{counted_look}
@@ -50,7 +50,8 @@ matched_kept os us k (Print n p q lo hi ∷ ls) fs h =
       h.4,
       all_map (Against os n h.0.side p lo hi) (Against us n r.0.side p lo hi) h.1 (λ f a. subst (λ s. Against us n s p lo hi f) (sym r.2.side) (against_kept os us k n h.0.side p lo hi f a)) h.5,
       h.6,
-      matched_kept os us k ls h.2 h.7,
+      h.7,
+      matched_kept os us k ls h.2 h.8,
     )
 matched_kept os us k (Cancel n q ∷ ls) fs h = matched_kept os us k ls fs h
 matched_kept os us k (Elect n ∷ ls) fs h = matched_kept os us k ls fs h
@@ -66,7 +67,8 @@ matched_append os (Print n p q lo hi ∷ ls) ks fs gs h k = (
   ap (λ xs. xs ++ gs) h.4 ∙ ap (λ xs. record { order = n; price = p; shares = q; low = lo; high = hi } ∷ xs) (append_append h.1 h.2 gs),
   h.5,
   h.6,
-  matched_append os ls ks h.2 gs h.7 k,
+  h.7,
+  matched_append os ls ks h.2 gs h.8 k,
 )
 matched_append os (Cancel n q ∷ ls) ks fs gs h k = matched_append os ls ks fs gs h k
 matched_append os (Elect n ∷ ls) ks fs gs h k = matched_append os ls ks fs gs h k
@@ -88,6 +90,34 @@ gives c p o gs h = go (is_better c p o) (is_at c p o) refl refl h
     go true t e f h = (and_parts (rests_on c o) (better c o.price p) e).0
     go false true e f h = (and_parts (rests_on c o) (eqb o.price p) f).0
     go false false e f h = absurd (omega arith)
+
+-- nobody gives twice -----------------------------------------------------------------------------------------------------------------------------------
+one_of : (m q n p : ℕ) (g : Option Range) (fs : List Fill) → fills_of m (filled_by q n p g fs) ≤ only (eqb n m) 1 + fills_of m fs
+one_of m zero n p g fs = omega arith
+one_of m (suc q) n p g fs = omega arith
+
+-- of a roll that is numbered from k on
+taken_above : (m : ℕ) (c : Side) (p : ℕ) (g : Option Range) (k : ℕ) (os : List Order) (gs : List ℕ) → m < k → Counted k (numbers os) → fills_of m (taken c p g os gs) ≡ 0
+unfolding taken
+taken_above m c p g k [] gs h a = refl
+taken_above m c p g k (o ∷ os) gs h a =
+    let e : only (eqb o.number m) 1 ≡ 0 = ap (λ b. only b 1) (ne_eqb o.number m (λ e. omega (arith, a.0))) in
+    omega (arith, one_of m (part (is_better c p o) (is_at c p o) o.«open» gs) o.number p g (taken c p g os (after (is_at c p o) gs)), e, taken_above m c p g (suc k) os (after (is_at c p o) gs) (omega arith) a.1)
+
+taken_once : (m : ℕ) (c : Side) (p : ℕ) (g : Option Range) (k : ℕ) (os : List Order) (gs : List ℕ) → Counted k (numbers os) → fills_of m (taken c p g os gs) ≤ 1
+unfolding taken
+taken_once m c p g k [] gs a = omega arith
+taken_once m c p g k (o ∷ os) gs a = go (eqb o.number m) refl (taken_once m c p g (suc k) os (after (is_at c p o) gs) a.1)
+  where
+    rest : List Fill
+    rest = taken c p g os (after (is_at c p o) gs)
+
+    one : fills_of m (filled_by (part (is_better c p o) (is_at c p o) o.«open» gs) o.number p g rest) ≤ only (eqb o.number m) 1 + fills_of m rest
+    one = one_of m (part (is_better c p o) (is_at c p o) o.«open» gs) o.number p g rest
+
+    go : (b : Bool) → eqb o.number m ≡ b → fills_of m rest ≤ 1 → fills_of m (filled_by (part (is_better c p o) (is_at c p o) o.«open» gs) o.number p g rest) ≤ 1
+    go true e ih = omega (arith, one, ap (λ b. only b 1) e, taken_above m c p g (suc k) os (after (is_at c p o) gs) (omega (arith, eqb-true o.number m e, a.0)) a.1)
+    go false e ih = omega (arith, one, ih, ap (λ b. only b 1) e)
 
 module _ (os : List Order) (r : Order) (c : Side) (s : Side) (e : c ≡ opposite s) (n p : ℕ) (g : Option Range) (is : look n os ≡ Some r) (w : r.place ≡ Line) where
   against : (q : ℕ) (o : Order) → look o.number os ≡ Some o → Fine o → rests_on c o ≡ true → 0 < q
@@ -113,16 +143,17 @@ module _ (os : List Order) (r : Order) (c : Side) (s : Side) (e : c ≡ opposite
       all_filled_by (Against os n s p (low_of g) (high_of g)) (part (is_better c p o) (is_at c p o) o.«open» gs) o.number p g _
       (λ h. against (part (is_better c p o) (is_at c p o) o.«open» gs) o a.0 b.0 (gives c p o gs h) h) (taken_against xs (after (is_at c p o) gs) a.1 b.1)
 
-  one_print : (q : ℕ) (fs : List Fill) → 0 < q → AllByRecursion (Against os n s p (low_of g) (high_of g)) fs → total (λ f. f.shares) fs ≡ q → s ≡ r.side
+  one_print : (q : ℕ) (fs : List Fill) → 0 < q → AllByRecursion (Against os n s p (low_of g) (high_of g)) fs → ((m : ℕ) → fills_of m fs ≤ 1) → total (λ f. f.shares) fs ≡ q → s ≡ r.side
       → MatchedBy os (Print n p q (low_of g) (high_of g) ∷ []) (filled_by q n p g fs)
-  one_print zero fs h a t y = absurd (omega arith)
-  one_print (suc q) fs h a t y = (
+  one_print zero fs h a u t y = absurd (omega arith)
+  one_print (suc q) fs h a u t y = (
     r,
     fs,
     [],
     is,
     ap (λ xs. record { order = n; price = p; shares = suc q; low = low_of g; high = high_of g } ∷ xs) (sym (append_none fs)),
     subst (λ z. AllByRecursion (Against os n z p (low_of g) (high_of g)) fs) y a,
+    u,
     t,
     refl,
   )
@@ -146,7 +177,7 @@ module _ (gifts : Rule) (lawful : LawfulRule gifts) where
       matched_kept os _ (kept_trans os (deal c p os gs) _ (kept_deal c p os gs) (kept_alter n (fill q) (deal c p os gs) (λ o. fill_number q o) (λ o. terms_fill q o)))
       (d.tape ++ (Print n p q (low_of d.range) (high_of d.range) ∷ [])) (d.fills ++ filled_by q n p d.range (taken c p d.range os gs))
       (matched_append os d.tape (Print n p q (low_of d.range) (high_of d.range) ∷ []) d.fills (filled_by q n p d.range (taken c p d.range os gs)) h
-      (one_print os m.runner c r.side refl n p d.range m.is ready.waits q (taken c p d.range os gs) (omega arith) a (taken_sum c p d.range os gs z ∙ e) (sym m.side)))
+      (one_print os m.runner c r.side refl n p d.range m.is ready.waits q (taken c p d.range os gs) (omega arith) a (λ j. taken_once j c p d.range 1 os gs m.counted) (taken_sum c p d.range os gs z ∙ e) (sym m.side)))
 
   abbrev Matched : Day → Type 0
   Matched d = MatchedBy d.roll d.tape d.fills

@@ -19,11 +19,14 @@ use Rattle.replay.specs.Starts.{start_of}
 abbrev pub PausedIfLeft : Order → Day → Day → Type 0
 PausedIfLeft r d e = e.paused ≡ (nat_lt (total print_of (handed d e)) r.«open» && any (is_contra r) e.roll)
 
+-- so it is with the run of the first in line on day d
+abbrev pub RunPauses : Rule → Day → Type 0
+RunPauses gifts d = (n : ℕ) (ns : List ℕ) (r : Order) → d.paused ≡ false → d.line ≡ n ∷ ns → look n d.roll ≡ Some r → PausedIfLeft r d (turn gifts d)
+
 -- The days of a performed call, d before it, after each number of turns of the line.
 pub record PauseOfRuns (gifts : Rule) (room : ℕ) (d : Day) (c : Call) : Type 0 where
   -- while trading is not paused, the first in line runs, and that pauses it or not
-  pub run : (k n : ℕ) (ns : List ℕ) (r : Order) → (turns gifts k (start_of d c)).paused ≡ false → (turns gifts k (start_of d c)).line ≡ n ∷ ns
-      → look n (turns gifts k (start_of d c)).roll ≡ Some r → PausedIfLeft r (turns gifts k (start_of d c)) (turn gifts (turns gifts k (start_of d c)))
+  pub run : (k : ℕ) → RunPauses gifts (turns gifts k (start_of d c))
   -- once it is paused, the call does nothing more
   pub over : (k : ℕ) → (turns gifts k (start_of d c)).paused ≡ true → (step gifts room d c).day ≡ turns gifts k (start_of d c)
 
