@@ -1,26 +1,12 @@
 -- What a call did, seen from the day that it was put to.
-use Rattle.std.proofs.Common.{◌≡◌, ℕ, Bool, true, false, List, [], ◌∷◌, ◌++◌, length, drop, Some, sym, refl, ap, arith}
-use Rattle.market.specs.declared.words.Stop.{Stop}
-use Rattle.market.specs.declared.words.TapeLine.{TapeLine}
-use Rattle.replay.specs.Days.{Day, Phase, Loading, Trading, Closed, Rule, Answer}
-use Rattle.replay.specs.Days as days
-use Rattle.replay.specs.Calls.{refusal, checks, step}
+use Rattle.std.proofs.Common.{◌≡◌, ℕ, Bool, true, false, Some, refl, arith}
+use Rattle.replay.specs.Days.{Loading, Trading, Closed}
+use Rattle.replay.specs.Calls.{refusal, checks}
 use Rattle.trading.specs.declared.board.Board.{Board}
 use Rattle.trading.specs.Boards.{day_of}
-use Rattle.trading.specs.Deeds.{Did}
 use Rattle.playback.specs.declared.call.Call.{Call}
 use Rattle.playback.specs.declared.call.Call.TheVariants.{Set, LoadLimit, LoadStop, Open, Enter, Cancel, FloorTrade, Resume, Close}
 use Rattle.playback.specs.Stages.{call_of}
-
-none_left : {A : Type 0} (xs ys : List A) → [] ≡ xs ++ ys → xs ≡ []
-none_left [] ys e = refl
-none_left (x ∷ xs) ys e = absurd (let z : ◌≡◌ {A = ℕ} 0 1 = cc in omega arith)
-
--- a call that writes no lines leaves those that it might have been lent
-pub silent : {gifts : Rule} {room : ℕ} {d : Day} {c : days.Call} {a : Answer} {e : Day} {ss : List Stop} (ls : List TapeLine) → Did gifts room d c a e ss [] [] → Did gifts room d c a e ss ls ls
-silent {gifts} {room} {d} {c} ls x =
-    let none : (step gifts room d c).day.tape ≡ [] = none_left (step gifts room d c).day.tape _ x.lines in
-    record { answer = x.answer; day = x.day; file = x.file; lines = sym (ap (λ t. t ++ drop (length t) ls) none) }
 
 -- calls after which a loading day is still one
 abbrev pub loads : Call → Bool
