@@ -2,4 +2,10 @@ pub mod Turning
 pub mod Phases
 pub mod Bytes
 pub mod Playing
+pub mod Along
+pub mod Said
+pub mod Counting
+pub mod Numbered
+pub mod Standing
+pub mod Refusing
 pub mod Lawful
