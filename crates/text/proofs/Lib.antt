@@ -4,3 +4,4 @@ pub mod Fields
 pub mod ReadsBack
 pub mod WritesBack
 pub mod Inspecting
+pub mod Printing
