@@ -1,5 +1,9 @@
 pub mod Laws
 pub mod Lent
+pub mod Phases
+pub mod Reached
+pub mod ReachedDays
 pub mod Replies
 pub mod Stages
+pub mod Sums
 pub mod Views

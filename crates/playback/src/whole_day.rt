@@ -37,13 +37,7 @@ pub fn replay<R: ShareOut + Drop, F: StopFile + Drop>(
     let mut stage = Stage::Load(begin(rule, file));
     let mut report = Report::new(heap);
     for call in calls {
-        let reply = match stage.put(*call, lines) {
-            Some(reply) => reply,
-            None => {
-                stage = stage.moved();
-                Ok(Reply::Done)
-            }
-        };
+        let reply = stage.put(*call, lines);
         let used = reply.map_or(0, Reply::lines);
         let view = View::of(stage.board());
         report.note(reply, view, &lines[0..used])?;

@@ -9,9 +9,7 @@ use Rattle.playback.specs.Stages.{call_of}
 use Rattle.playback.specs.Replies.{answer_of, lines_of}
 use Rattle.playback.proofs.Replaying.{begun, told_fit, went_on, did_by, midway_by, view_in, all_told}
 use Rattle.playback.proofs.Lawful.{list_laws}
-use Rattle.playback.proofs.Stepping.{Deed, deed_by, led}
 use Rattle.playback.proofs.whole_day.replay.Goals as goal
-use Rattle.playback.proofs.whole_day.replay.Goals.{in-Some, in-None}
 
 pub loop-call-init : goal.loop-call-init
 unfolding new_day
@@ -29,12 +27,8 @@ pub slice_bounds-note-end : goal.slice_bounds-note-end
 slice_bounds-note-end g c =
     let v = c.loop-call.invariant in
     let x = get_or c.args.calls.now c.loop-call.call-index (Set 0 0 0) in
-    let r = c.match-put.reply in
-    let deed : Deed g.R.ShareOut.gifts g.F.StopFile.room g.F.StopFile.stops x r c.loop-call.stage c.match-put.stage c.loop-call.lines c.put.new.tape =
-    elim c.match-put.branch [
-      | in-Some w ↦ deed_by _ _ _ w.reply-is w.stage-is (record { did = w.in-Some.ensures.did; keeps = c.put.ensures.keeps })
-      | in-None w ↦ deed_by _ _ _ w.reply-is w.stage-is (led _ _ _ w.in-None.ensures.leads_on w.moved-stage.ensures.did w.moved-stage.ensures.keeps)
-    ] in
+    let r = c.put-reply.result in
+    let deed = c.put-reply.ensures in
     let did = did_by x (ap g.R.ShareOut.gifts v.rule) v.room v.long deed.did in
     let count : c.map_or-used.result ≡ lines_of r = search rules in
     omega (arith, count, told_fit r v.midway did)
@@ -50,28 +44,24 @@ loop-call-preserved g c =
     let n = length c.args.lines.now in
     let lt : i < length xs = omega arith in
     let x = get_or xs i (Set 0 0 0) in
-    let r = c.match-put.reply in
+    let r = c.put-reply.result in
     let k = c.in_ok-note.ensures in
-    let st = c.match-put.stage in
-    let deed : Deed g.R.ShareOut.gifts g.F.StopFile.room g.F.StopFile.stops x r c.loop-call.stage st c.loop-call.lines c.put.new.tape =
-    elim c.match-put.branch [
-      | in-Some w ↦ deed_by _ _ _ w.reply-is w.stage-is (record { did = w.in-Some.ensures.did; keeps = c.put.ensures.keeps })
-      | in-None w ↦ deed_by _ _ _ w.reply-is w.stage-is (led _ _ _ w.in-None.ensures.leads_on w.moved-stage.ensures.did w.moved-stage.ensures.keeps)
-    ] in
+    let st = c.put-reply.new.self in
+    let deed = c.put-reply.ensures in
     let did = did_by x (ap g.R.ShareOut.gifts v.rule) v.room v.long deed.did in
     let rest = midway_by (ap (map (call_of n)) (drop_more xs i (Set 0 0 0) lt)) refl refl refl v.midway in
     let seen = c.of-view.ensures Loading ∙ ap (λ (b : Board). view_of (day_of Loading b)) c.board.ensures ∙ view_in st in
     let used : c.map_or-used.result ≡ lines_of r = search rules in
     let count : lines_of r ≡ c.map_or-used.result - 0 = omega (arith, used) in
     record {
-      long = c.put.auto.tape ∙ v.long;
+      long = c.put-reply.auto.tape ∙ v.long;
       rule = deed.keeps.1 ∙ v.rule;
       room = deed.keeps.0 ∙ v.room;
       midway =
           midway_by refl
           (sym (ap (map answer_of) k.replies ∙ map-append answer_of c.loop-call.report.replies.items (r ∷ [])))
           (sym k.views)
-          (ap (λ m. c.loop-call.report.tape.items ++ take m c.put.new.tape) count ∙ sym k.tape)
+          (ap (λ m. c.loop-call.report.tape.items ++ take m c.put-reply.new.tape) count ∙ sym k.tape)
           (went_on r c.of-view.result rest did seen);
     }
 

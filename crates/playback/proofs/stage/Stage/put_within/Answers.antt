@@ -5,7 +5,7 @@ use Rattle.trading.proofs.Doing.{did_refused}
 use Rattle.playback.specs.declared.stage.Stage.{Stage}
 use Rattle.playback.specs.Stages.{call_of, day_in, rule_in, file_in}
 use Rattle.playback.proofs.Stepping.{not_closed}
-use Rattle.playback.proofs.stage.Stage.put.Goals as goal
+use Rattle.playback.proofs.stage.Stage.put_within.Goals as goal
 
 pub returns-in-Shut-clause-did : goal.returns-in-Shut-clause-did
 returns-in-Shut-clause-did g c =
