@@ -1,6 +1,6 @@
+pub mod Bytes
 pub mod Turning
 pub mod Phases
-pub mod Bytes
 pub mod Playing
 pub mod Along
 pub mod Said

@@ -7,7 +7,6 @@ use Rattle.text.specs.declared.printed.Layer.{Layer}
 use Rattle.text.specs.declared.printed.Layer.TheVariants.{Text, Session, Market}
 use Rattle.text.specs.declared.printed.Printed.{Printed}
 use Rattle.text.specs.declared.printed.Printed.TheVariants as shown
-use Rattle.text.specs.Printed.{printed_bytes}
 use Rattle.replay.specs.Refusals.{other_phase}
 use Rattle.replay.specs.Days.{Day, new_day, Phase, Closed, Rule, Outcome, Answer, Done, Number, Lines, Entered, Refused}
 use Rattle.replay.specs.Calls.{is_phase, handed, step}
@@ -67,7 +66,3 @@ module _ (gifts : Rule) (room free : ℕ) where
   -- what the lines that are lent to each call hold in the end
   abbrev pub lines_after : List ℕ → List TapeLine → List TapeLine
   lines_after text ls = cond (nat_lt 32768 (length text)) ls (lent gifts room new_day (map (call_of free) (calls_among (heard text))) ls)
-
-abbrev pub bytes_of : List Printed → List ℕ
-bytes_of [] = []
-bytes_of (p ∷ ps) = printed_bytes p ++ bytes_of ps
