@@ -1,5 +1,5 @@
 -- Bytes that are put one after the other, and bytes that wait.
-use Rattle.std.proofs.Common.{◌≡◌, ℕ, Bool, true, false, ◌+◌, ◌-◌, ◌≤◌, List, [], ◌∷◌, ◌++◌, length, take, drop, refl, sym, ap, ◌∙◌, subst, append_assoc, arith}
+use Rattle.std.proofs.Common.{◌≡◌, ℕ, Bool, true, false, ◌+◌, ◌≤◌, List, [], ◌++◌, length, take, drop, refl, sym, ap, ◌∙◌, subst, append_assoc, arith}
 use Rattle.std.proofs.lemmas.List.{append-nil, take-append-le, drop-append-le, drop-drop, length-append, length-drop}
 use Rattle.std.proofs.Math.Seq.{take-add}
 use Rattle.std.specs.Io.KnownBytes.{Appends}
@@ -101,3 +101,6 @@ waits a waited left xs e =
 -- what waited was passed on, and the sink is handed back
 pub handed : {a b : SinkState} (waited : List ℕ) → Took a b (waited ++ []) → Took (behind a waited) b []
 handed {a} {b} waited p = subst (λ l. Took (behind a waited) (record b { owed = l }) []) (append-nil b.owed) (passed waited [] [] refl p)
+
+pub nothing_waits : (a : SinkState) → behind a [] ≡ a
+nothing_waits a = ap (λ (l : List ℕ). record a { owed = l }) (append-nil a.owed)

@@ -1,5 +1,5 @@
 -- What a program shows of what it reads. Assumes nothing.
-use Rattle.std.specs.Prelude.{◌≡◌, ◌+◌, ◌↔◌, ℕ, Bool, true, false, List, [], Option, Some, take}
+use Rattle.std.specs.Prelude.{◌≡◌, ◌+◌, ◌↔◌, ℕ, Bool, true, false, List, [], Some, take}
 use Rattle.std.specs.Io.KnownBytes.{Consumes}
 use Rattle.streams.specs.Sinks.{SinkState, Took}
 use Rattle.streams.specs.Sources.{SourceState}
@@ -17,3 +17,7 @@ pub record Relayed (shown : List ℕ → List ℕ) (limit : ℕ) (source source'
   pub passed : source'.failed ≡ false → Passed out out' (shown text)
   pub silent : source'.failed ≡ true → out' ≡ out
   pub answer : (ok ≡ true) ↔ ((source'.failed ≡ false) × (out'.broken ≡ false))
+
+-- what is shown of all that was left went out, unless reading failed
+abbrev pub ShowsAll : (List ℕ → List ℕ) → SourceState → SourceState → SinkState → SinkState → Type 0
+ShowsAll shown source source' out out' = source'.failed ≡ false → (all : List ℕ) → source.left ≡ Some all → Passed out out' (shown all)

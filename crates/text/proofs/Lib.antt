@@ -5,3 +5,4 @@ pub mod ReadsBack
 pub mod WritesBack
 pub mod Inspecting
 pub mod Printing
+pub mod Limited

@@ -1,4 +1,4 @@
-use Rattle.std.proofs.Common.{[], ◌∷◌, decimal, subst, ◌∙◌, ap}
+use Rattle.std.proofs.Common.{[], ◌∷◌, subst, ◌∙◌}
 use Rattle.streams.specs.Sinks.{Took}
 use Rattle.streams.proofs.Taking.{took_more}
 use Rattle.text.proofs.printed.put_total.Goals as goal

@@ -1,5 +1,4 @@
-use Rattle.std.proofs.Common.{[], ◌∷◌, ◌++◌, decimal, subst, append_assoc}
-use Rattle.streams.specs.Sinks.{Took}
+use Rattle.std.proofs.Common.{[], ◌∷◌, append_assoc}
 use Rattle.streams.proofs.Taking.{took_more}
 use Rattle.text.proofs.printed.put_totals.Goals as goal
 

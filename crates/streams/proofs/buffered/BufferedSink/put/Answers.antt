@@ -1,4 +1,4 @@
-use Rattle.std.proofs.Common.{[], ◌≡◌, ◌+◌, ◌-◌, ap, take, length, arith}
+use Rattle.std.proofs.Common.{[], ◌+◌, ◌-◌, ap, take, length, arith}
 use Rattle.streams.proofs.Placing.{placed_all}
 use Rattle.streams.proofs.Taking.{took_more, direct, waits}
 use Rattle.streams.proofs.buffered.BufferedSink.put.Goals as goal
