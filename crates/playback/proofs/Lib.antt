@@ -1,5 +1,6 @@
 pub mod Stepping
 pub mod Telling
-pub mod Replaying
 pub mod OneMore
+pub mod Noted
+pub mod Placing
 pub mod Lawful

@@ -2,9 +2,11 @@
 #![tactic(auto)]
 
 pub mod call;
+pub mod notes;
 pub mod phase;
+pub mod places;
 pub mod reached;
 pub mod reply;
-pub mod report;
 pub(crate) mod stage;
+pub mod two_days;
 pub mod whole_day;

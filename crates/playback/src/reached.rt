@@ -12,5 +12,5 @@ pub mod calls;
 #[derive(Drop)]
 pub struct ReachedDay<R: ShareOut, F: StopFile> {
     pub(crate) stage: Stage<R, F>,
-    ghost reached: { ∥ IsReached (R.ShareOut.gifts (rule_in stage)) (F.StopFile.room (file_in stage)) (day_in stage) ∥₁ },
+    pub ghost reached: { ∥ IsReached (R.ShareOut.gifts (rule_in stage)) (F.StopFile.room (file_in stage)) (day_in stage) ∥₁ },
 }
