@@ -157,7 +157,7 @@ text_laws gifts h room free text =
     record {
       calls = laws;
       tape = λ short. ap tape_in (played gifts room free text short) ∙ sym (taped gifts room free text);
-      invisible = λ N text' short short' alike x y.
+      invisible = λ text' N short short' alike x y.
           subst (λ ps. AllZip (SamePrinted N) ps (transcript gifts room free text')) (sym (played gifts room free text short))
           (subst (λ ps. AllZip (SamePrinted N) (printed gifts room free 1 new_day (heard text)) ps) (sym (played gifts room free text' short'))
           (zipped gifts N room free 1 new_day new_day (heard text) (heard text') refl (none_yet N) (λ k. (laws.add_up k).0.printed) (λ k. ((list_laws gifts h room (calls_of free text')).add_up k).0.printed) alike

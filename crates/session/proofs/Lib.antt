@@ -9,3 +9,4 @@ pub mod Numbered
 pub mod Standing
 pub mod Refusing
 pub mod Lawful
+pub mod Limited

@@ -50,16 +50,21 @@ pub data SamePrinted (N : ℕ → Bool) : Printed → Printed → Type 0 where
   on_tape : {l m : TapeLine} → SameLine N l m → SamePrinted N (Tape l) (Tape m)
   totalled : {a p c o a' c' o' : ℕ} → SamePrinted N (Totals a p c o) (Totals a' p c' o')
 
+-- Unelected stops are invisible: of two texts that are alike but for price and shares of stops that both days accept and neither elects, the same is
+-- printed, but the shares of those stops' X lines and of the totals those that are accepted, cancelled and open.
+abbrev pub Unseen : Rule → ℕ → ℕ → ℕ → List ℕ → List ℕ → Type 0
+Unseen gifts room room' free text text' =
+    (N : ℕ → Bool) → length text ≤ 32768 → length text' ≤ 32768 → Alike gifts N room free new_day new_day (heard text) (heard text')
+    → Unelected N (last_day gifts room free text) → Unelected N (last_day gifts room' free text') → AllZip (SamePrinted N) (transcript gifts room free text) (transcript gifts room' free text')
+
 pub record TextLaws (gifts : Rule) (room free : ℕ) (text : List ℕ) : Type 0 where
   -- The laws of a list hold of the calls of the text: unelected stops are invisible; elections, limits, range and waiting are in order; shares add up.
   -- (Those of a text that is too long are never performed.)
   pub calls : ListLaws gifts room (calls_of free text)
   -- The tape that these laws speak of is the one that is printed.
   pub tape : length text ≤ 32768 → tape_in (transcript gifts room free text) ≡ (last_day gifts room free text).tape
-  -- Unelected stops are invisible in what is printed: of any other text that is alike but for price and shares of stops that both days accept and neither
-  -- elects, the same is printed, but the shares of those stops' X lines and of the totals those that are accepted, cancelled and open.
-  pub invisible : (N : ℕ → Bool) (text' : List ℕ) → length text ≤ 32768 → length text' ≤ 32768 → Alike gifts N room free new_day new_day (heard text) (heard text')
-      → Unelected N (last_day gifts room free text) → Unelected N (last_day gifts room free text') → AllZip (SamePrinted N) (transcript gifts room free text) (transcript gifts room free text')
+  -- Unelected stops are invisible in what is printed, whatever the other text.
+  pub invisible : (text' : List ℕ) → Unseen gifts room room free text text'
   -- Each printed line, against those above it: A numbers run 1, 2, 3 ..; a `!` line refuses a later line than those above, by a number of its layer; a Z line
   -- adds up what is printed above it, and only `!` lines stand below it.
   pub stands : (above below : List Printed) (p : Printed) → length text ≤ 32768 → transcript gifts room free text ≡ above ++ p ∷ below → Stands room free (brought gifts room free text) above p
