@@ -1,5 +1,6 @@
 -- The calls that led to a day, and one call more. Assumes nothing.
 use Rattle.std.specs.Prelude.{◌≡◌, ℕ, List, [], ◌∷◌, ◌++◌}
+use Rattle.market.specs.declared.words.Stop.{Stop}
 use Rattle.market.specs.declared.words.TapeLine.{TapeLine}
 use Rattle.replay.specs.Days.{Day, new_day, Call, Rule, Answer}
 use Rattle.replay.specs.Calls.{handed, step, after_calls}
@@ -21,3 +22,9 @@ pub record Went (gifts : Rule) (room : ℕ) (cs : List Call) (c : Call) (a : Ans
   pub lines : ls' ≡ over (handed (after_calls gifts room new_day cs) (step gifts room (after_calls gifts room new_day cs) c).day) ls
   pub reached : Reached gifts room (cs ++ c ∷ []) e
   pub laws : ListLaws gifts room (cs ++ c ∷ [])
+
+-- A call altered no order, no stop of the file, and no line.
+pub record Unaltered (d e : Day) (ss ss' : List Stop) (ls ls' : List TapeLine) : Type 0 where
+  pub day : e ≡ d
+  pub stops : ss' ≡ ss
+  pub lines : ls' ≡ ls
