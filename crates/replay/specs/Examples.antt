@@ -102,9 +102,9 @@ filed_in_pause = usual ∷ LoadLimit Sell 1 2012 100 ∷ LoadLimit Sell 1 2030 1
 abbrev pub print_later : List Call
 print_later = filed_in_pause ++ (Enter Limit Sell 1 2014 200 lines ∷ Enter Market Buy 2 0 100 lines ∷ [])
 
--- or a floor trade at the price of the buy stop
+-- or a floor trade below the price of the buy stop, and one at it
 abbrev pub floor_later : List Call
-floor_later = filed_in_pause ++ (FloorTrade 2005 100 lines ∷ [])
+floor_later = filed_in_pause ++ (FloorTrade 2004 100 lines ∷ FloorTrade 2005 100 lines ∷ [])
 
 -- the record of such a stop: all of it is open
 abbrev pub stop_of_100 : ℕ → Side → ℕ → Place → Found
@@ -115,7 +115,18 @@ abbrev pub sells_in_pause : List Call
 sells_in_pause = usual ∷ LoadLimit Buy 1 2010 200 ∷ LoadLimit Sell 2 2012 100 ∷ LoadLimit Sell 3 2030 300 ∷ Open ∷ Enter Market Buy 4 0 300 lines
     ∷ Enter Limit Sell 5 2010 100 lines ∷ Enter Market Sell 6 0 100 lines ∷ Enter ImmediateOrCancel Sell 7 2010 100 lines ∷ []
 
--- then a floor trade that brings the offer into range; the bid is at the range's other end
+-- then Resume, which leaves the offer out of range
+abbrev pub sells_resumed : List Call
+sells_resumed = sells_in_pause ++ (Resume lines ∷ [])
+
+-- or a cancellation of the residual and one more sell, then Resume
+abbrev pub sells_first : List Call
+sells_first = sells_in_pause ++ (CancelOrder 4 4 lines ∷ Enter Limit Sell 8 2010 100 lines ∷ [])
+
+abbrev pub sells_first_resumed : List Call
+sells_first_resumed = sells_first ++ (Resume lines ∷ [])
+
+-- or a floor trade that brings the offer into range; the bid is at the range's other end
 abbrev pub sells_run : List Call
 sells_run = sells_in_pause ++ (FloorTrade 2020 100 lines ∷ [])
 
@@ -127,9 +138,10 @@ got n p q l h = record { order = n; price = p; shares = q; low = l; high = h }
 abbrev pub meets_nobody : List Call
 meets_nobody = usual ∷ LoadLimit Sell 1 2012 100 ∷ LoadStop Buy 4 2012 100 ∷ Open ∷ Enter Market Buy 2 0 300 lines ∷ Enter Market Sell 3 0 200 lines ∷ []
 
--- stops on both sides that the first print of a market buy elects, whose residual pauses trading; the sell stop has the price of the offer left
+-- Stops on both sides that the print of a market buy elects, whose residual pauses trading. The sell stop has the price of the offer left,
+-- and a lower number.
 abbrev pub stops_wait : List Call
-stops_wait = usual ∷ LoadLimit Buy 1 2010 200 ∷ LoadLimit Sell 2 2012 100 ∷ LoadLimit Sell 3 2030 300 ∷ LoadStop Sell 4 2030 100 ∷ LoadStop Buy 4 2012 100 ∷ Open
+stops_wait = usual ∷ LoadLimit Buy 1 2010 200 ∷ LoadStop Sell 4 2030 100 ∷ LoadStop Buy 4 2012 100 ∷ LoadLimit Sell 2 2012 100 ∷ LoadLimit Sell 3 2030 300 ∷ Open
     ∷ Enter Market Buy 5 0 300 lines ∷ []
 
 abbrev pub stops_waited : List Call
@@ -227,9 +239,10 @@ pub record Examples : Type 0 where
   -- the next print, at 2014, elects both: the buy stop takes the other half of the offer, the sell stop meets nobody
   pub print_elects_later : tape_of print_later
       ≡ Print 3 2012 100 2000 2020 ∷ Cancel 3 100 ∷ Print 7 2014 100 2002 2022 ∷ Elect 4 ∷ Elect 5 ∷ Print 4 2014 100 2002 2022 ∷ Cancel 5 100 ∷ []
-  -- so does a floor trade at 2005; the range is then 1995 to 2015, the offer at 2030 lies outside, and both wait in a new pause
-  pub floor_elects_later : (tape_of floor_later ≡ Print 3 2012 100 2000 2020 ∷ Cancel 3 100 ∷ Floor 2005 100 ∷ Elect 4 ∷ Elect 5 ∷ [])
-      × (is_paused (day_of floor_later) ≡ true) × (in_force (day_of floor_later) ≡ between 1995 2015) × ((day_of floor_later).line ≡ 4 ∷ 5 ∷ [])
+  -- A floor trade at 2004 elects the sell stop alone. One at 2005 elects the buy stop too; the range is then 1995 to 2015, the offer at 2030
+  -- lies outside, and the buy stop waits in a new pause.
+  pub floor_elects_later : (tape_of floor_later ≡ Print 3 2012 100 2000 2020 ∷ Cancel 3 100 ∷ Floor 2004 100 ∷ Elect 5 ∷ Cancel 5 100 ∷ Floor 2005 100 ∷ Elect 4 ∷ [])
+      × (is_paused (day_of floor_later) ≡ true) × (in_force (day_of floor_later) ≡ between 1995 2015) × ((day_of floor_later).line ≡ 4 ∷ [])
       × (record_of 4 (day_of floor_later) ≡ stop_of_100 4 Buy 2005 Line)
   -- In a pause nobody runs: limit and market order join the line behind the residual of 200, the immediate-or-cancel order is cancelled at
   -- once, and the bid keeps its 200.
@@ -238,6 +251,16 @@ pub record Examples : Type 0 where
   pub nobody_runs_after : (is_paused (day_of sells_in_pause) ≡ true) × ((day_of sells_in_pause).line ≡ 4 ∷ 5 ∷ 6 ∷ [])
       × (quote Buy (day_of sells_in_pause) ≡ Some (2010, 200)) × (quote Sell (day_of sells_in_pause) ≡ Some (2030, 300))
       × (opens by_time sells_in_pause ≡ 200 ∷ 0 ∷ 300 ∷ 200 ∷ 100 ∷ 100 ∷ 0 ∷ [])
+  -- it runs again, in vain, and stays first in line
+  pub residual_first : (tape_of sells_resumed ≡ Print 4 2012 100 2000 2020 ∷ Cancel 7 100 ∷ []) × (is_paused (day_of sells_resumed) ≡ true)
+      × (in_force (day_of sells_resumed) ≡ between 2002 2022) × ((day_of sells_resumed).line ≡ 4 ∷ 5 ∷ 6 ∷ [])
+  -- with the residual cancelled a sell is first in line, and the bid in range; still nobody runs
+  pub cancel_runs_nobody : (tape_of sells_first ≡ Print 4 2012 100 2000 2020 ∷ Cancel 7 100 ∷ Cancel 4 200 ∷ []) × (is_paused (day_of sells_first) ≡ true)
+      × ((day_of sells_first).line ≡ 5 ∷ 6 ∷ 8 ∷ []) × (quote Buy (day_of sells_first) ≡ Some (2010, 200))
+  -- Resume runs them; the last finds no bid and rests
+  pub resume_runs : (tape_of sells_first_resumed
+      ≡ Print 4 2012 100 2000 2020 ∷ Cancel 7 100 ∷ Cancel 4 200 ∷ Print 5 2010 100 2002 2022 ∷ Print 6 2010 100 2002 2022 ∷ [])
+      × (is_paused (day_of sells_first_resumed) ≡ false) × ((day_of sells_first_resumed).line ≡ []) × (quote Sell (day_of sells_first_resumed) ≡ Some (2010, 100))
   -- Who waits gives nothing, though both sells are priced better than the offer at 2030: best offer is 2030, so the floor trade at 2020 is
   -- between the quotes, and the residual trades with the offer alone (300 - 200 = 100 are left). Then the sells run, for the bid's 200.
   pub resting_give : tape_of sells_run
@@ -253,12 +276,12 @@ pub record Examples : Type 0 where
   pub market_cancelled_after : (is_paused (day_of meets_nobody) ≡ false) × (quote Buy (day_of meets_nobody) ≡ None) × (quote Sell (day_of meets_nobody) ≡ None)
       × (totals (day_of meets_nobody) ≡ record { accepted = 700; printed = 100; cancelled = 500; «open» = 0 })
   -- stops elected by the run that pauses trading get their lines, and wait behind its residual
-  pub elected_wait : (tape_of stops_wait ≡ Print 6 2012 100 2000 2020 ∷ Elect 4 ∷ Elect 5 ∷ []) × (is_paused (day_of stops_wait) ≡ true)
-      × ((day_of stops_wait).line ≡ 6 ∷ 4 ∷ 5 ∷ []) × (opens by_time stops_wait ≡ 200 ∷ 0 ∷ 300 ∷ 100 ∷ 100 ∷ 200 ∷ [])
+  pub elected_wait : (tape_of stops_wait ≡ Print 6 2012 100 2000 2020 ∷ Elect 2 ∷ Elect 3 ∷ []) × (is_paused (day_of stops_wait) ≡ true)
+      × ((day_of stops_wait).line ≡ 6 ∷ 2 ∷ 3 ∷ []) × (opens by_time stops_wait ≡ 200 ∷ 100 ∷ 100 ∷ 0 ∷ 300 ∷ 200 ∷ [])
   -- After the floor trade they run in that order. The residual takes 200 of the offer's 300 and nothing of the sell stop, which then takes
   -- 100 of the bid's 200; the buy stop takes the last 100 of the offer.
   pub elected_run : tape_of stops_waited
-      ≡ Print 6 2012 100 2000 2020 ∷ Elect 4 ∷ Elect 5 ∷ Floor 2020 100 ∷ Print 6 2030 200 2010 2030 ∷ Print 4 2010 100 2010 2030 ∷ Print 5 2030 100 2010 2030 ∷ []
+      ≡ Print 6 2012 100 2000 2020 ∷ Elect 2 ∷ Elect 3 ∷ Floor 2020 100 ∷ Print 6 2030 200 2010 2030 ∷ Print 2 2010 100 2010 2030 ∷ Print 3 2030 100 2010 2030 ∷ []
   pub elected_run_after : (is_paused (day_of stops_waited) ≡ false) × ((day_of stops_waited).line ≡ []) × (quote Buy (day_of stops_waited) ≡ Some (2010, 100))
       × (quote Sell (day_of stops_waited) ≡ None) × (opens by_time stops_waited ≡ 100 ∷ 0 ∷ 0 ∷ 0 ∷ 0 ∷ 0 ∷ [])
   -- an order in line is cancelled in the pause, which Resume then ends
