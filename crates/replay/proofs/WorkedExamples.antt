@@ -50,6 +50,7 @@ examples = record {
   resume_elects_nobody = (refl, refl);
   still_filed = (refl, refl, refl, refl, refl);
   print_elects_later = refl;
+  offer_gives = refl;
   floor_elects_later = (refl, refl, refl, refl, refl);
   nobody_runs = (refl, refl);
   nobody_runs_after = (refl, refl, refl, refl, refl);

@@ -98,9 +98,9 @@ abbrev pub filed_in_pause : List Call
 filed_in_pause = usual ∷ LoadLimit Sell 1 2012 100 ∷ LoadLimit Sell 1 2030 100 ∷ Open ∷ Enter ImmediateOrCancel Buy 2 2030 200 lines
     ∷ Enter Stop Buy 3 2005 100 lines ∷ Enter Stop Sell 3 2015 100 lines ∷ Resume lines ∷ []
 
--- then an offer at 2014 and an order that takes half of it
+-- then an offer at the price of the sell stop, and an order that takes half of it
 abbrev pub print_later : List Call
-print_later = filed_in_pause ++ (Enter Limit Sell 1 2014 200 lines ∷ Enter Market Buy 2 0 100 lines ∷ [])
+print_later = filed_in_pause ++ (Enter Limit Sell 1 2015 200 lines ∷ Enter Market Buy 2 0 100 lines ∷ [])
 
 -- or a floor trade below the price of the buy stop, and one at it
 abbrev pub floor_later : List Call
@@ -109,6 +109,10 @@ floor_later = filed_in_pause ++ (FloorTrade 2004 100 lines ∷ FloorTrade 2005 1
 -- the record of such a stop: all of it is open
 abbrev pub stop_of_100 : ℕ → Side → ℕ → Place → Found
 stop_of_100 n s p w = Is (record { number = n; member = 3; side = s; kind = Stop; price = p; accepted = 100; filled = 0; cancelled = 0; «open» = 100; place = w })
+
+-- the shares of one order in one print
+abbrev pub got : ℕ → ℕ → ℕ → ℕ → ℕ → Fill
+got n p q l h = record { order = n; price = p; shares = q; low = l; high = h }
 
 -- sells of three kinds, each entered in a pause, and each of which would trade at the bid
 abbrev pub sells_in_pause : List Call
@@ -129,10 +133,6 @@ sells_first_resumed = sells_first ++ (Resume lines ∷ [])
 -- or a floor trade that brings the offer into range; the bid is at the range's other end
 abbrev pub sells_run : List Call
 sells_run = sells_in_pause ++ (FloorTrade 2020 100 lines ∷ [])
-
--- the shares of one order in one print
-abbrev pub got : ℕ → ℕ → ℕ → ℕ → ℕ → Fill
-got n p q l h = record { order = n; price = p; shares = q; low = l; high = h }
 
 -- a market buy that finds too few shares, the buy stop that its print elects, and a market sell: these two find nobody
 abbrev pub meets_nobody : List Call
@@ -236,9 +236,13 @@ pub record Examples : Type 0 where
       × (answers_of filed_in_pause ≡ Done ∷ Number 1 ∷ Number 2 ∷ Done ∷ Entered 3 2 ∷ Entered 4 0 ∷ Entered 5 0 ∷ Lines 0 ∷ [])
   pub still_filed : (is_paused (day_of filed_in_pause) ≡ false) × (in_force (day_of filed_in_pause) ≡ between 2002 2022) × ((day_of filed_in_pause).line ≡ [])
       × (record_of 4 (day_of filed_in_pause) ≡ stop_of_100 4 Buy 2005 StopFile) × (record_of 5 (day_of filed_in_pause) ≡ stop_of_100 5 Sell 2015 StopFile)
-  -- the next print, at 2014, elects both: the buy stop takes the other half of the offer, the sell stop meets nobody
+  -- the next print, at 2015, elects both: the buy stop takes the other half of the offer, the sell stop meets nobody
   pub print_elects_later : tape_of print_later
-      ≡ Print 3 2012 100 2000 2020 ∷ Cancel 3 100 ∷ Print 7 2014 100 2002 2022 ∷ Elect 4 ∷ Elect 5 ∷ Print 4 2014 100 2002 2022 ∷ Cancel 5 100 ∷ []
+      ≡ Print 3 2012 100 2000 2020 ∷ Cancel 3 100 ∷ Print 7 2015 100 2002 2022 ∷ Elect 4 ∷ Elect 5 ∷ Print 4 2015 100 2002 2022 ∷ Cancel 5 100 ∷ []
+  -- Each print's fills: who ran, then who gave. The sell stop, with its lower number, is filed at the first print at 2015 and in line at the
+  -- second, so it gives to neither.
+  pub offer_gives : (day_of print_later).fills
+      ≡ got 3 2012 100 2000 2020 ∷ got 1 2012 100 2000 2020 ∷ got 7 2015 100 2002 2022 ∷ got 6 2015 100 2002 2022 ∷ got 4 2015 100 2002 2022 ∷ got 6 2015 100 2002 2022 ∷ []
   -- A floor trade at 2004 elects the sell stop alone. One at 2005 elects the buy stop too; the range is then 1995 to 2015, the offer at 2030
   -- lies outside, and the buy stop waits in a new pause.
   pub floor_elects_later : (tape_of floor_later ≡ Print 3 2012 100 2000 2020 ∷ Cancel 3 100 ∷ Floor 2004 100 ∷ Elect 5 ∷ Cancel 5 100 ∷ Floor 2005 100 ∷ Elect 4 ∷ [])
@@ -261,13 +265,13 @@ pub record Examples : Type 0 where
   pub resume_runs : (tape_of sells_first_resumed
       ≡ Print 4 2012 100 2000 2020 ∷ Cancel 7 100 ∷ Cancel 4 200 ∷ Print 5 2010 100 2002 2022 ∷ Print 6 2010 100 2002 2022 ∷ [])
       × (is_paused (day_of sells_first_resumed) ≡ false) × ((day_of sells_first_resumed).line ≡ []) × (quote Sell (day_of sells_first_resumed) ≡ Some (2010, 100))
-  -- Who waits gives nothing, though both sells are priced better than the offer at 2030: best offer is 2030, so the floor trade at 2020 is
+  -- Who waits gives nothing, though both sells are priced better than the offer at 2030: that is the best offer, so the floor trade at 2020 is
   -- between the quotes, and the residual trades with the offer alone (300 - 200 = 100 are left). Then the sells run, for the bid's 200.
   pub resting_give : tape_of sells_run
       ≡ Print 4 2012 100 2000 2020 ∷ Cancel 7 100 ∷ Floor 2020 100 ∷ Print 4 2030 200 2010 2030 ∷ Print 5 2010 100 2010 2030 ∷ Print 6 2010 100 2010 2030 ∷ []
   pub resting_give_after : (is_paused (day_of sells_run) ≡ false) × ((day_of sells_run).line ≡ []) × (quote Buy (day_of sells_run) ≡ None)
       × (quote Sell (day_of sells_run) ≡ Some (2030, 100)) × (opens by_time sells_run ≡ 0 ∷ 0 ∷ 100 ∷ 0 ∷ 0 ∷ 0 ∷ 0 ∷ [])
-  -- each print's fills: who ran, then who gave
+  -- the fills in turn
   pub resting_give_fills : (day_of sells_run).fills
       ≡ got 4 2012 100 2000 2020 ∷ got 2 2012 100 2000 2020 ∷ got 4 2030 200 2010 2030 ∷ got 3 2030 200 2010 2030
       ∷ got 5 2010 100 2010 2030 ∷ got 1 2010 100 2010 2030 ∷ got 6 2010 100 2010 2030 ∷ got 1 2010 100 2010 2030 ∷ []
