@@ -9,16 +9,6 @@ use Rattle.streams.proofs.Known.{appends_none, appends_more, keeps_same}
 unlike : {A : Type 0} → true ≡ false → A
 unlike h = absurd (let z : ◌≡◌ {A = ℕ} 0 1 = cc in omega arith)
 
-pub took_broken : (a : SinkState) (bytes : List ℕ) → a.broken ≡ true → Took a a bytes
-took_broken a bytes h =
-    record {
-      count = 0;
-      within = omega arith;
-      front = appends_none a.arrived a.arrived (keeps_same a.arrived);
-      rest = λ f. unlike (sym h ∙ f);
-      lasts = λ t. (t, refl);
-    }
-
 pub took_none : (a : SinkState) → Took a a []
 took_none a =
     record {
