@@ -4,7 +4,7 @@ use Rattle.std.specs.List.{AllZip}
 use Rattle.market.specs.declared.words.Side.TheVariants.{Buy, Sell}
 use Rattle.market.specs.declared.words.TapeLine.{TapeLine}
 use Rattle.sharing.specs.Shares.{LawfulRule}
-use Rattle.replay.specs.Days.{Day, Rule, Call, Answer, new_day, Loading}
+use Rattle.replay.specs.Days.{Day, Phase, Rule, Call, Answer, new_day, Loading}
 use Rattle.replay.specs.Calls.{handed, step, after_calls, tapes}
 use Rattle.replay.specs.Questions.{quote, totals}
 use Rattle.replay.specs.History.{bare, joined, BareRun}
@@ -12,6 +12,7 @@ use Rattle.replay.specs.SharesAddUp.{Conserved, brought_in}
 use Rattle.replay.specs.StopsUnseen.{AllSeen}
 use Rattle.replay.proofs.History.{run_bare}
 use Rattle.replay.proofs.Accepted.{shares_add_up}
+use Rattle.trading.specs.declared.board.Board.{Board}
 use Rattle.trading.specs.Boards.{day_of}
 use Rattle.playback.specs.declared.call.Call as calls
 use Rattle.playback.specs.declared.reply.Reply.{Reply}
@@ -53,11 +54,14 @@ unfolding quote
 view_bare d = refl
 
 -- what is seen of a board is seen of the day
-pub view_in : {R F : Type 0} {g : _} (st : Stage R F g) → view_of (day_of Loading (board_in st)) ≡ view_of (day_in st)
+view_in : {R F : Type 0} {g : _} (st : Stage R F g) → view_of (day_of Loading (board_in st)) ≡ view_of (day_in st)
 unfolding quote
 view_in (Load d) = refl
 view_in (Trade d) = refl
 view_in (Shut d) = refl
+
+pub view_at : {R F : Type 0} {g : _} (st : Stage R F g) {v : View} {b : Board} → ((f : Phase) → v ≡ view_of (day_of f b)) → b ≡ board_in st → v ≡ view_of (day_in st)
+view_at st e f = e Loading ∙ ap (λ (b : Board). view_of (day_of Loading b)) f ∙ view_in st
 
 -- what is told of a call is what is seen of it
 pub telling : {gifts : Rule} {room : ℕ} {cs : List Call} {c : Call} {e : Day} {ls ls' : List TapeLine} (r : Result Reply CallRefusal) → Went gifts room cs c (answer_of r) e ls ls'

@@ -3,6 +3,7 @@ use Rattle.std.proofs.Common.{◌≡◌, ℕ, ◌+◌, ◌*◌, ◌≤◌, List,
 use Rattle.std.proofs.lemmas.List.{length-append}
 use Rattle.std.proofs.Math.Seq.{take-append_seam}
 use Rattle.std.proofs.Math.Nat.{ℕ_set}
+use Rattle.std.proofs.Math.Bridge.{le_prop}
 use Rattle.std.proofs.Math.Logic.{∥∥₁_elim}
 use Rattle.std.specs.List.{AllByRecursion, AllByRecursion-prop}
 use Rattle.market.specs.declared.words.Order.{Order}
@@ -138,3 +139,6 @@ module _ {gifts : Rule} (h : LawfulRule gifts) {room : ℕ} {d e : Day} {c : Cal
     sum = ∥∥₁_elim x (ℕ_set _ _) (λ y. (adds y.0 y.1).sum);
     each = ∥∥₁_elim x (AllByRecursion-prop (λ (o : Order). o.accepted ≡ o.filled + o.cancelled + o.«open») (λ o. ℕ_set _ _) e.roll) (λ y. (adds y.0 y.1).each);
   }
+
+  pub fits_reached : ∥ IsReached gifts room d ∥₁ → lines_of r ≤ length ls'
+  fits_reached x = ∥∥₁_elim x le_prop (λ y. fits r (went did y.0 y.1 h))

@@ -1,6 +1,7 @@
 -- What stands in lent places once one call more is noted there.
 use Rattle.std.proofs.Common.{◌≡◌, ℕ, suc, ◌+◌, ◌-◌, ◌<◌, ◌≤◌, Bool, true, false, cond, ◌&&◌, ltb, leb, List, [], ◌∷◌, ◌++◌, map, length, take, drop, set, Result, refl, sym, ap, ◌∙◌, subst, append_assoc, arith}
 use Rattle.std.proofs.lemmas.Bool.{and_parts, ltb-true, eqb-true, eq-eqb, ne_eqb}
+use Rattle.std.specs.List.{take-map}
 use Rattle.std.proofs.lemmas.List.{append-nil, length-append, length-drop, length-map, map-append, map-set, drop-drop}
 use Rattle.std.proofs.Math.Nat.{sub-zero}
 use Rattle.std.proofs.Math.Seq.{take-append_seam, drop-append-add}
@@ -11,7 +12,7 @@ use Rattle.playback.specs.declared.places.Places.{Places}
 use Rattle.playback.specs.declared.reply.Reply.{Reply}
 use Rattle.playback.specs.declared.reply.CallRefusal.{CallRefusal}
 use Rattle.playback.specs.declared.reply.View.{View}
-use Rattle.playback.specs.Fitting.{has_room, fitting, fitting_in, Holds, Continued}
+use Rattle.playback.specs.Fitting.{has_room, fitting, fitting_in, Holds, Continued, SameLent}
 use Rattle.playback.specs.Lent.{over}
 use Rattle.playback.specs.Replies.{answer_of}
 use Rattle.playback.specs.Seen.{Follows, Seen, lines_seen}
@@ -141,8 +142,8 @@ module _ {o s : Places} {xs : List Seen} (h : Holds o xs s) (x : Seen) where
   grows w y = at_end w ∙ ap (λ b. xs ++ cond b (x ∷ []) []) y ∙ ap (λ l. l ++ x ∷ []) (sym (all_kept w))
 
   -- nothing more was written
-  pub left_out : (s.whole && test) ≡ false → {t : Places} → t.replies.now ≡ s.replies.now → t.views.now ≡ s.views.now → t.tape.now ≡ s.tape.now → t.count ≡ s.count → t.used ≡ s.used → t.whole ≡ false → Holds o (xs ++ x ∷ []) t
-  left_out n r v l k u w =
+  pub left_out : (s.whole && test) ≡ false → {t : Places} → t.replies.now ≡ s.replies.now → t.views.now ≡ s.views.now → t.tape.now ≡ s.tape.now → t.count ≡ s.count → t.used ≡ s.used → t.whole ≡ false → SameLent s t → Holds o (xs ++ x ∷ []) t
+  left_out n r v l k u w z =
       let e : fitting_in o (xs ++ x ∷ []) ≡ kept = stays n in
       record {
         replies = ap (map answer_of) r ∙ h.replies ∙ ap (λ ys. over (map (λ (y : Seen). y.answer) ys) (map answer_of o.replies.now)) (sym e);
@@ -151,13 +152,14 @@ module _ {o s : Places} {xs : List Seen} (h : Holds o xs s) (x : Seen) where
         count = k ∙ h.count ∙ ap (λ (ys : List Seen). length ys) (sym e);
         used = u ∙ h.used ∙ ap (λ ys. length (joined (lines_seen ys))) (sym e);
         whole = w ∙ sym (ne_eqb (length (fitting_in o (xs ++ x ∷ []))) (length (xs ++ x ∷ [])) (λ q. omega (arith, ap (λ (ys : List Seen). length ys) e, length-append xs (x ∷ []), fitting_length (length o.replies.now) (length o.views.now) (length o.tape.now) xs)));
+        lent = (z.0 ∙ h.lent.0, z.1 ∙ h.lent.1, z.2 ∙ h.lent.2);
       }
 
   -- the call was written behind the others
   pub written_down : (s.whole && test) ≡ true → {t : Places} (r : Result Reply CallRefusal) → x.answer ≡ answer_of r
       → t.replies.now ≡ set s.replies.now s.count r → t.views.now ≡ set s.views.now s.count x.view → t.tape.now ≡ take s.used s.tape.now ++ x.lines ++ drop (s.used + length x.lines) s.tape.now
-      → t.count ≡ s.count + 1 → t.used ≡ s.used + length x.lines → t.whole ≡ s.whole → Holds o (xs ++ x ∷ []) t
-  written_down y r a er ev el k u w =
+      → t.count ≡ s.count + 1 → t.used ≡ s.used + length x.lines → t.whole ≡ s.whole → SameLent s t → Holds o (xs ++ x ∷ []) t
+  written_down y r a er ev el k u w z =
       let both : (s.whole ≡ true) × (test ≡ true) = and_parts s.whole test y in
       let room : (ltb 0 (length s.replies.now - s.count) ≡ true) × (ltb 0 (length s.views.now - s.count) ≡ true) = and_parts _ _ (and_parts _ (leb (length x.lines) (length s.tape.now - s.used)) both.1).0 in
       let e : fitting_in o (xs ++ x ∷ []) ≡ kept ++ x ∷ [] = grows both.0 both.1 in
@@ -176,6 +178,7 @@ module _ {o s : Places} {xs : List Seen} (h : Holds o xs s) (x : Seen) where
         count = omega (arith, k, h.count, ap (λ (ys : List Seen). length ys) e, length-append kept (x ∷ []));
         used = omega (arith, u, h.used, ap (λ ys. length (joined (lines_seen ys))) e, ap (λ (l : List TapeLine). length l) (joined_push kept x), length-append tape x.lines);
         whole = w ∙ both.0 ∙ sym (eq-eqb _ _ (ap (λ (ys : List Seen). length ys) more));
+        lent = (z.0 ∙ h.lent.0, z.1 ∙ h.lent.1, z.2 ∙ h.lent.2);
       }
 
 -- places follow a list by what fits of it
@@ -184,6 +187,23 @@ held o ys [] s t h e = subst (λ l. Holds o l t) (sym (append-nil ys)) (subst (�
 held o ys (x ∷ xs) s t h f = subst (λ l. Holds o l t) (append_assoc ys (x ∷ []) xs) (held o (ys ++ x ∷ []) xs f.0 t (f.1 o ys h) f.2)
 
 -- places in which nothing is noted
-pub holds_none : (o s : Places) → s.replies.now ≡ o.replies.now → s.views.now ≡ o.views.now → s.tape.now ≡ o.tape.now → s.count ≡ 0 → s.used ≡ 0 → s.whole ≡ true → Holds o [] s
+pub holds_none : (o s : Places) → s.replies.now ≡ o.replies.now → s.views.now ≡ o.views.now → s.tape.now ≡ o.tape.now → s.count ≡ 0 → s.used ≡ 0 → s.whole ≡ true → SameLent o s → Holds o [] s
 unfolding fitting
-holds_none o s r v l k u w = record { replies = ap (map answer_of) r; views = v; tape = l; count = k; used = u; whole = w }
+holds_none o s r v l k u w z = record { replies = ap (map answer_of) r; views = v; tape = l; count = k; used = u; whole = w; lent = z }
+
+-- what is noted there
+module _ {o p : Places} {xs : List Seen} (h : Holds o xs p) where
+  pub noted_answers : map answer_of (take p.count p.replies.now) ≡ map (λ (y : Seen). y.answer) (fitting_in o xs)
+  noted_answers =
+      let said : List Answer = map (λ (y : Seen). y.answer) (fitting_in o xs) in
+      sym (take-map answer_of p.count p.replies.now) ∙ (λ i. take ((h.count ∙ sym (length-map (fitting_in o xs) (λ (y : Seen). y.answer))) i) (h.replies i)) ∙ take-append_seam said (drop (length said) (map answer_of o.replies.now))
+
+  pub noted_views : take p.count p.views.now ≡ map (λ (y : Seen). y.view) (fitting_in o xs)
+  noted_views =
+      let vs : List View = map (λ (y : Seen). y.view) (fitting_in o xs) in
+      (λ i. take ((h.count ∙ sym (length-map (fitting_in o xs) (λ (y : Seen). y.view))) i) (h.views i)) ∙ take-append_seam vs (drop (length vs) o.views.now)
+
+  pub noted_tape : take p.used p.tape.now ≡ joined (lines_seen (fitting_in o xs))
+  noted_tape =
+      let ls : List TapeLine = joined (lines_seen (fitting_in o xs)) in
+      (λ i. take (h.used i) (h.tape i)) ∙ take-append_seam ls (drop (length ls) o.tape.now)

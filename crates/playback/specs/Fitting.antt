@@ -19,6 +19,10 @@ fitting r v l (x ∷ xs) = cond (has_room r v l (length x.lines)) (x ∷ fitting
 abbrev pub fitting_in : Places → List Seen → List Seen
 fitting_in o xs = fitting (length o.replies.now) (length o.views.now) (length o.tape.now) xs
 
+-- the places are still those that were lent
+abbrev pub SameLent : Places → Places → Type 0
+SameLent o p = (p.replies.ghost_name ≡ o.replies.ghost_name) × (p.views.ghost_name ≡ o.views.ghost_name) × (p.tape.ghost_name ≡ o.tape.ghost_name)
+
 -- Of places o, once a list was noted in them: what fits stands at the front, and the others are as they were.
 pub record Holds (o : Places) (xs : List Seen) (p : Places) : Type 0 where
   pub replies : map answer_of p.replies.now ≡ over (map (λ (x : Seen). x.answer) (fitting_in o xs)) (map answer_of o.replies.now)
@@ -28,6 +32,7 @@ pub record Holds (o : Places) (xs : List Seen) (p : Places) : Type 0 where
   pub count : p.count ≡ length (fitting_in o xs)
   pub used : p.used ≡ length (joined (lines_seen (fitting_in o xs)))
   pub whole : p.whole ≡ (length (fitting_in o xs) == length xs)
+  pub lent : SameLent o p
 
 -- what stands there of a list, and then what is to stand there of the list with one call more
 abbrev pub Continued : Places → Seen → Places → Type 0

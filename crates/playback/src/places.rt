@@ -8,6 +8,7 @@ pub mod noting;
 
 // A list of calls is one run of a day, and the run does not depend on how much of it somebody wants to keep: so all calls are performed in any
 // case, and the places keep the longest beginning of the list whose replies, views and lines all fit.
+#[derive(Drop)]
 pub struct Places<'a> {
     pub(crate) replies: &'a mut [Result<Reply, CallRefusal>],
     pub(crate) views: &'a mut [View],
@@ -31,6 +32,7 @@ impl<'a> Places<'a> {
     ) -> Places<'a>
         ensures lent { (result.replies.now ≡ replies.old) × (result.views.now ≡ views.old) × (result.tape.now ≡ tape.old) }
         ensures none { (result.count ≡ 0) × (result.used ≡ 0) × (result.whole ≡ true) }
+        ensures same { (result.replies.ghost_name ≡ replies.entry.ghost_name) × (result.views.ghost_name ≡ views.entry.ghost_name) × (result.tape.ghost_name ≡ tape.entry.ghost_name) }
     {
         Places {
             replies,

@@ -11,13 +11,22 @@ use market::words::Side::{Buy, Sell};
 #[derive(Clone, Copy)]
 pub(crate) struct Row(pub(crate) Step, pub(crate) Answer, pub(crate) Mode);
 
-// A list of calls, and the tape under each share-out rule.
+// An order that waits in line after the call of that index, and its shares that are open.
+#[derive(Clone, Copy)]
+pub(crate) struct Asked {
+    pub(crate) after: usize,
+    pub(crate) order: u32,
+    pub(crate) open: u32,
+}
+
+// A list of calls, and the tape under each share-out rule. An order may be asked for where the calls are put one by one.
 #[derive(Clone, Copy)]
 pub(crate) struct Session<'a> {
     pub(crate) name: &'a str,
     pub(crate) rows: &'a [Row],
     pub(crate) by_time: &'a [Line],
     pub(crate) by_turns: &'a [Line],
+    pub(crate) asked: Option<Asked>,
 }
 
 const LOTS: [Row; 13] = [
@@ -167,24 +176,33 @@ pub(crate) const SESSIONS: [Session<'static>; 4] = [
         rows: &LOTS,
         by_time: &LOTS_TAPE,
         by_turns: &LOTS_TAPE,
+        asked: None,
     },
     Session {
         name: "sweep, pause, floor trade",
         rows: &SWEEP,
         by_time: &SWEEP_TAPE,
         by_turns: &SWEEP_TAPE,
+        // the rest of order 7, while trading is paused
+        asked: Some(Asked {
+            after: 8,
+            order: 7,
+            open: 300,
+        }),
     },
     Session {
         name: "stops at a print's price",
         rows: &ELECTION,
         by_time: &ELECTION_TAPE,
         by_turns: &ELECTION_TAPE,
+        asked: None,
     },
     Session {
         name: "rows shared out",
         rows: &DAY,
         by_time: &DAY_BY_TIME,
         by_turns: &DAY_BY_TURNS,
+        asked: None,
     },
 ];
 
@@ -195,18 +213,21 @@ pub(crate) const MISTOLD: [Session<'static>; 3] = [
         rows: &[Row(Open, Refused(21), NoRange)],
         by_time: &[],
         by_turns: &[],
+        asked: None,
     },
     Session {
         name: "a wrong range",
         rows: &[Row(Open, Done, Going(2000, 2020))],
         by_time: &[],
         by_turns: &[],
+        asked: None,
     },
     Session {
         name: "a wrong tape",
         rows: &LOTS,
         by_time: &[F(2000, 100), F(2000, 999_900)],
         by_turns: &LOTS_TAPE,
+        asked: None,
     },
 ];
 
@@ -242,4 +263,5 @@ pub(crate) const NARROW: Session<'static> = Session {
     rows: &REFUSALS,
     by_time: &REFUSALS_TAPE,
     by_turns: &REFUSALS_TAPE,
+    asked: None,
 };

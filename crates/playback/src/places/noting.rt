@@ -1,6 +1,6 @@
 // Notes are taken in lent places.
 ghost use Rattle.std.specs.Prelude.{◌≡◌, ◌-◌, ◌&&◌, true, length};
-ghost use Rattle.playback.specs.Fitting.{has_room, Continued};
+ghost use Rattle.playback.specs.Fitting.{has_room, Continued, SameLent};
 
 use crate::notes::Notes;
 use crate::places::Places;
@@ -12,6 +12,7 @@ impl Places<'_> {
     pub fn clear(&mut self)
         ensures lent { (self.new.replies.now ≡ self.old.replies.now) × (self.new.views.now ≡ self.old.views.now) × (self.new.tape.now ≡ self.old.tape.now) }
         ensures none { (self.new.count ≡ 0) × (self.new.used ≡ 0) × (self.new.whole ≡ true) }
+        ensures same { SameLent self.old self.new }
     {
         self.count = 0;
         self.used = 0;

@@ -1,5 +1,5 @@
 // The calls that are put to a day, and the questions.
-ghost use Rattle.std.specs.Prelude.{◌≡◌, List, length, take};
+ghost use Rattle.std.specs.Prelude.{◌≡◌, ◌≤◌, List, length, take};
 ghost use Rattle.replay.specs.Days.{Call as DayCall, new_day};
 ghost use Rattle.trading.specs.Deeds.{Did};
 ghost use Rattle.playback.specs.Phases.{phase_of};
@@ -49,6 +49,7 @@ impl<R: ShareOut, F: StopFile> ReachedDay<R, F> {
         ensures did { Did (R.ShareOut.gifts (rule_at self.old)) (F.StopFile.room (file_at self.old)) (day_at self.old) (call_of (length lines.old) call) (answer_of result) (day_at self.new) (F.StopFile.stops (file_at self.new)) lines.old lines.new }
         ensures went { (cs : List DayCall) → Reached (R.ShareOut.gifts (rule_at self.old)) (F.StopFile.room (file_at self.old)) cs (day_at self.old) → Went (R.ShareOut.gifts (rule_at self.old)) (F.StopFile.room (file_at self.old)) cs (call_of (length lines.old) call) (answer_of result) (day_at self.new) lines.old lines.new }
         ensures sums { Adds (day_at self.old) (day_at self.new) (call_of (length lines.old) call) (answer_of result) (take (lines_of result) lines.new) }
+        ensures within { lines_of result ≤ length lines.new }
         ensures keeps { (F.StopFile.room (file_at self.new) ≡ F.StopFile.room (file_at self.old)) × (rule_at self.new ≡ rule_at self.old) }
     {
         self.stage.put(call, lines)

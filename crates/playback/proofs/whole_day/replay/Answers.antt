@@ -1,9 +1,7 @@
 use Rattle.std.proofs.Common.{rules, ◌≡◌, ◌∷◌, ◌++◌, ◌<◌, ◌-◌, ◌+◌, [], length, get_or, take, map, sym, refl, ap, ◌∙◌, subst, arith}
 use Rattle.std.proofs.lemmas.List.{take_more, map-append, take_all}
-use Rattle.replay.specs.Days.{Loading, new_day}
+use Rattle.replay.specs.Days.{new_day}
 use Rattle.replay.specs.Calls.{after_calls}
-use Rattle.trading.specs.declared.board.Board.{Board}
-use Rattle.trading.specs.Boards.{day_of}
 use Rattle.playback.specs.declared.call.Call.TheVariants.{Set}
 use Rattle.playback.specs.Lent.{over, lent}
 use Rattle.playback.specs.Reached.{Reached, Went}
@@ -11,10 +9,9 @@ use Rattle.playback.specs.ReachedDays.{day_at}
 use Rattle.playback.specs.Replies.{answer_of, lines_of}
 use Rattle.playback.specs.Seen.{Follows, seen}
 use Rattle.playback.specs.Stages.{call_of}
-use Rattle.playback.specs.Views.{view_of}
 use Rattle.playback.proofs.Lawful.{list_laws}
 use Rattle.playback.proofs.OneMore.{written, fits}
-use Rattle.playback.proofs.Noted.{follows_more, seen_more, lent_more, telling, view_in, went_by, adds_up}
+use Rattle.playback.proofs.Noted.{follows_more, seen_more, lent_more, telling, view_at, went_by, adds_up}
 use Rattle.playback.proofs.whole_day.replay.Goals as goal
 
 pub loop-call-init : goal.loop-call-init
@@ -47,7 +44,7 @@ loop-call-preserved g c =
     let more : map (call_of n) (take (i + 1) xs) ≡ cs ++ call_of n x ∷ [] = ap (map (call_of n)) (take_more xs i (Set 0 0 0) lt) ∙ map-append (call_of n) (take i xs) (x ∷ []) in
     let used : c.map_or-used.result ≡ lines_of c.put-reply.result = search rules in
     let count : c.map_or-used.result - 0 ≡ lines_of c.put-reply.result = omega (arith, used) in
-    let view = c.of.ensures Loading ∙ ap (λ (b : Board). view_of (day_of Loading b)) c.board.ensures ∙ view_in day.stage in
+    let view = view_at day.stage c.of.ensures c.board.ensures in
     let tells = subst (λ s. g.N.Notes.notes c.loop-call.notes s c.note.new.self) (sym (telling c.put-reply.result w c.of.result _ count view)) c.note.ensures in
     record {
       long = c.put-reply.auto.lines ∙ v.long;

@@ -1,6 +1,6 @@
 use Rattle.std.proofs.Common.{ap}
 use Rattle.playback.specs.Stages.{rule_in}
-use Rattle.playback.proofs.OneMore.{reached_more, went, adds_reached}
+use Rattle.playback.proofs.OneMore.{reached_more, went, adds_reached, fits_reached}
 use Rattle.playback.proofs.reached.ReachedDay.put.Goals as goal
 
 pub invariant_of-self : goal.invariant_of-self
@@ -14,3 +14,6 @@ returns-clause-went g c = λ cs r. went c.put.ensures.did cs r (g.R.ShareOut.law
 
 pub returns-clause-sums : goal.returns-clause-sums
 returns-clause-sums g c = adds_reached (g.R.ShareOut.lawful (rule_in c.args.self.now.stage)) c.put.result c.put.ensures.did c.args.self.now.reached
+
+pub returns-clause-within : goal.returns-clause-within
+returns-clause-within g c = fits_reached (g.R.ShareOut.lawful (rule_in c.args.self.now.stage)) c.put.result c.put.ensures.did c.args.self.now.reached
