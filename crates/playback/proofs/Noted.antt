@@ -82,7 +82,8 @@ unfolding tapes seen
 lines_are gifts room d [] = refl
 lines_are gifts room d (c ∷ cs) = ap (λ l. handed d (step gifts room d c).day ∷ l) (lines_are gifts room (step gifts room d c).day cs)
 
-whole_tape : (gifts : Rule) (room : ℕ) (cs : List Call) → (after_calls gifts room new_day cs).tape ≡ joined (lines_seen (seen gifts room new_day cs))
+-- all lines that were handed over are the tape
+pub whole_tape : (gifts : Rule) (room : ℕ) (cs : List Call) → (after_calls gifts room new_day cs).tape ≡ joined (lines_seen (seen gifts room new_day cs))
 unfolding new_day
 whole_tape gifts room cs = let r : BareRun gifts room new_day cs = run_bare gifts room cs new_day in r.tape ∙ ap joined (sym r.lines ∙ lines_are gifts room new_day cs)
 

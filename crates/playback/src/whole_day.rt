@@ -34,6 +34,7 @@ pub fn replay<R: ShareOut, F: StopFile, N: Notes>(
     ensures day { day_at result ≡ bare (after_calls (R.ShareOut.gifts rule) (F.StopFile.room file) new_day (map (call_of (length lines.old)) calls.now)) }
     ensures lines { lines.new ≡ lent (R.ShareOut.gifts rule) (F.StopFile.room file) new_day (map (call_of (length lines.old)) calls.now) lines.old }
     ensures sums { AddsUp (day_at result) (joined (lines_seen (seen (R.ShareOut.gifts rule) (F.StopFile.room file) new_day (map (call_of (length lines.old)) calls.now)))) (brought_in (R.ShareOut.gifts rule) (F.StopFile.room file) new_day (map (call_of (length lines.old)) calls.now)) }
+    ensures tape { joined (lines_seen (seen (R.ShareOut.gifts rule) (F.StopFile.room file) new_day (map (call_of (length lines.old)) calls.now))) ≡ (after_calls (R.ShareOut.gifts rule) (F.StopFile.room file) new_day (map (call_of (length lines.old)) calls.now)).tape }
     ensures laws { ListLaws (R.ShareOut.gifts rule) (F.StopFile.room file) (map (call_of (length lines.old)) calls.now) }
     ensures keeps { (F.StopFile.room (file_at result) ≡ F.StopFile.room file) × (rule_at result ≡ rule) }
 {
@@ -58,6 +59,7 @@ pub fn replay_into<R: ShareOut, F: StopFile>(
     ensures day { day_at result ≡ bare (after_calls (R.ShareOut.gifts rule) (F.StopFile.room file) new_day (map (call_of (length lines.old)) calls.now)) }
     ensures lines { lines.new ≡ lent (R.ShareOut.gifts rule) (F.StopFile.room file) new_day (map (call_of (length lines.old)) calls.now) lines.old }
     ensures sums { AddsUp (day_at result) (joined (lines_seen (seen (R.ShareOut.gifts rule) (F.StopFile.room file) new_day (map (call_of (length lines.old)) calls.now)))) (brought_in (R.ShareOut.gifts rule) (F.StopFile.room file) new_day (map (call_of (length lines.old)) calls.now)) }
+    ensures tape { joined (lines_seen (seen (R.ShareOut.gifts rule) (F.StopFile.room file) new_day (map (call_of (length lines.old)) calls.now))) ≡ (after_calls (R.ShareOut.gifts rule) (F.StopFile.room file) new_day (map (call_of (length lines.old)) calls.now)).tape }
     ensures laws { ListLaws (R.ShareOut.gifts rule) (F.StopFile.room file) (map (call_of (length lines.old)) calls.now) }
     ensures keeps { (F.StopFile.room (file_at result) ≡ F.StopFile.room file) × (rule_at result ≡ rule) }
 {

@@ -11,7 +11,7 @@ use Rattle.playback.specs.Seen.{Follows, seen}
 use Rattle.playback.specs.Stages.{call_of}
 use Rattle.playback.proofs.Lawful.{list_laws}
 use Rattle.playback.proofs.OneMore.{written, fits}
-use Rattle.playback.proofs.Noted.{follows_more, seen_more, lent_more, telling, view_at, went_by, adds_up}
+use Rattle.playback.proofs.Noted.{follows_more, seen_more, lent_more, telling, view_at, went_by, whole_tape, adds_up}
 use Rattle.playback.proofs.whole_day.replay.Goals as goal
 
 pub loop-call-init : goal.loop-call-init
@@ -65,3 +65,6 @@ returns-clause-sums g c =
 
 pub returns-clause-laws : goal.returns-clause-laws
 returns-clause-laws g c = list_laws _ (g.R.ShareOut.lawful c.args.rule) _ _
+
+pub returns-clause-tape : goal.returns-clause-tape
+returns-clause-tape g c = sym (whole_tape _ _ _)
