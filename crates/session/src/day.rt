@@ -60,7 +60,7 @@ impl Show for ProgramDay {
 
 // Reads a day file and prints its transcript. One byte past the limit tells that there is more.
 pub fn replay_stream<R: Read, W: Write>(source: &mut Kept<R>, sink: &mut Kept<W>) -> io::Result<()>
-    ensures relayed { Relayed day_shown 32768 (⟦<Kept<R> as Source>⟧.state source.old) (⟦<Kept<R> as Source>⟧.state source.new) (⟦<Kept<W> as Sink>⟧.state sink.old) (⟦<Kept<W> as Sink>⟧.state sink.new) (is_ok result) }
+    ensures relayed { Relayed day_shown 32769 (⟦<Kept<R> as Source>⟧.state source.old) (⟦<Kept<R> as Source>⟧.state source.new) (⟦<Kept<W> as Sink>⟧.state sink.old) (⟦<Kept<W> as Sink>⟧.state sink.new) (is_ok result) }
     ensures all { ShowsAll day_shown (⟦<Kept<R> as Source>⟧.state source.old) (⟦<Kept<R> as Source>⟧.state source.new) (⟦<Kept<W> as Sink>⟧.state sink.old) (⟦<Kept<W> as Sink>⟧.state sink.new) }
     ensures laws { (text : List ℕ) → TextLaws by_time 512 2049 text }
 {

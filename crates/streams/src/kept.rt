@@ -1,5 +1,5 @@
 // A reader or a writer of the standard library that keeps its first error.
-ghost use Rattle.std.specs.Prelude.{◌≡◌, true, false, not, is_ok, []};
+ghost use Rattle.std.specs.Prelude.{◌≡◌, true, false, not, is_ok, IfSome, []};
 ghost use Rattle.streams.specs.Written.{Written};
 
 use crate::retry::{read_again, write_again};
@@ -31,6 +31,7 @@ impl<T> Kept<T> {
     fn keep(&mut self, error: Error)
         ensures inner { self.new.inner ≡ self.old.inner }
         ensures failed { self.new.failed ≡ true }
+        ensures error { self.new.error ≡ Some error }
     {
         self.failed = true;
         self.error = Some(error);
@@ -39,6 +40,7 @@ impl<T> Kept<T> {
     // The error, where a read or a write has failed; when asked again, that there was one.
     pub fn check(&mut self) -> io::Result<()>
         ensures answer { is_ok result ≡ not self.old.failed }
+        ensures told { self.old.failed ≡ true → IfSome self.old.error (λ e. result ≡ Err e) }
         ensures inner { self.new.inner ≡ self.old.inner }
         ensures failed { self.new.failed ≡ self.old.failed }
     {

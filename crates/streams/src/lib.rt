@@ -1,3 +1,4 @@
+// What bytes are read from and written to: a failure shows in the state of a source or sink, so that no call has an error.
 #![tactic(auto)]
 
 pub mod buffered;

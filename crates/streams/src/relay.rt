@@ -1,5 +1,5 @@
 // What a program shows of what it reads.
-ghost use Rattle.std.specs.Prelude.{◌≡◌, ◌-◌, ◌<◌, ℕ, List, [], false, is_ok, length};
+ghost use Rattle.std.specs.Prelude.{◌≡◌, ℕ, List, [], false, is_ok, length};
 ghost use Rattle.streams.specs.Sinks.{Took};
 ghost use Rattle.streams.specs.Relays.{Relayed, Passed};
 
@@ -40,7 +40,7 @@ pub fn relay<S: Show, R: Read, W: Write>(
     sink: &mut Kept<W>,
     input: &mut [u8],
 ) -> io::Result<()>
-    ensures { 0 < length input.old → Relayed (S.shown view.old) (length input.old - 1) (⟦<Kept<R> as Source>⟧.state source.old) (⟦<Kept<R> as Source>⟧.state source.new) (⟦<Kept<W> as Sink>⟧.state sink.old) (⟦<Kept<W> as Sink>⟧.state sink.new) (is_ok result) }
+    ensures { Relayed (S.shown view.old) (length input.old) (⟦<Kept<R> as Source>⟧.state source.old) (⟦<Kept<R> as Source>⟧.state source.new) (⟦<Kept<W> as Sink>⟧.state sink.old) (⟦<Kept<W> as Sink>⟧.state sink.new) (is_ok result) }
 {
     let end = fill(source, input);
     source.check()?;

@@ -115,7 +115,7 @@ impl Show for Inspection {
 
 // Reads an input and shows it. One byte past the limit tells that there is more.
 pub fn inspect_stream<R: Read, W: Write>(source: &mut Kept<R>, sink: &mut Kept<W>) -> io::Result<()>
-    ensures relayed { Relayed inspected 32768 (⟦<Kept<R> as Source>⟧.state source.old) (⟦<Kept<R> as Source>⟧.state source.new) (⟦<Kept<W> as Sink>⟧.state sink.old) (⟦<Kept<W> as Sink>⟧.state sink.new) (is_ok result) }
+    ensures relayed { Relayed inspected 32769 (⟦<Kept<R> as Source>⟧.state source.old) (⟦<Kept<R> as Source>⟧.state source.new) (⟦<Kept<W> as Sink>⟧.state sink.old) (⟦<Kept<W> as Sink>⟧.state sink.new) (is_ok result) }
     ensures all { ShowsAll inspected (⟦<Kept<R> as Source>⟧.state source.old) (⟦<Kept<R> as Source>⟧.state source.new) (⟦<Kept<W> as Sink>⟧.state sink.old) (⟦<Kept<W> as Sink>⟧.state sink.new) }
 {
     let mut input = [0; INPUT_LIMIT + 1];

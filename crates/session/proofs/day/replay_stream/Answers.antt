@@ -1,4 +1,3 @@
-use Rattle.std.proofs.Common.{lit<}
 use Rattle.streams.proofs.Relaying.{shows_all}
 use Rattle.sharing.specs.Keeps.{time_lawful}
 use Rattle.sharing.specs.Turns.{by_time}
@@ -7,7 +6,7 @@ use Rattle.session.proofs.Limited.{cut_same}
 use Rattle.session.proofs.day.replay_stream.Goals as goal
 
 pub returns-clause-all : goal.returns-clause-all
-returns-clause-all g c = shows_all {limit = 32768} cut_same (c.relay.ensures (lit< tt))
+returns-clause-all g c = shows_all {room = 32769} cut_same c.relay.ensures
 
 pub returns-clause-laws : goal.returns-clause-laws
 returns-clause-laws g c = λ text. text_laws by_time time_lawful 512 2049 text
