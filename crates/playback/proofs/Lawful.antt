@@ -20,7 +20,7 @@ use Rattle.replay.proofs.RunPauses.{runs_pause}
 use Rattle.replay.proofs.Pauses.{pause_stays}
 use Rattle.replay.proofs.Givers.{book_gives}
 use Rattle.replay.proofs.Need.{tape_suffices}
-use Rattle.replay.proofs.TapeGrows.{call_grows}
+use Rattle.replay.proofs.TapeGrows.{call_grows, tape_whole}
 use Rattle.replay.proofs.RefusalsGiven.{refusals}
 use Rattle.replay.proofs.Accepted.{shares_add_up}
 use Rattle.playback.specs.Laws.{CallLaws, ListLaws}
@@ -49,6 +49,7 @@ list_laws gifts h room cs = record {
   filed = λ k. stops_are_filed gifts h room (take k cs);
   elected = λ j k. elected_by_first gifts h room (take j cs) (take k (drop j cs));
   once = λ k. elected_once gifts h room (take k cs);
+  tape = λ k. tape_whole gifts h room (take k cs);
   calls = λ k. call_laws gifts h room (take k cs);
   worked_off = λ k. worked_off gifts h room (take k cs);
   refusals = λ k. refusals.of_lists gifts h room (take k cs);

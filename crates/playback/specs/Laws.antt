@@ -8,7 +8,8 @@ use Rattle.market.specs.declared.words.TapeLine.{TapeLine}
 use Rattle.replay.specs.Days.{Day, new_day, Call, Rule}
 use Rattle.replay.specs.Rolls.{look, place_of}
 use Rattle.replay.specs.Runs.{turns, work}
-use Rattle.replay.specs.Calls.{refusal, checks, handed, step, after_calls}
+use Rattle.replay.specs.Calls.{refusal, checks, handed, step, after_calls, tapes}
+use Rattle.replay.specs.History.{joined}
 use Rattle.replay.specs.Questions.{totals}
 use Rattle.replay.specs.StopsUnseen.{Pairs, Unelected, AllSeen}
 use Rattle.replay.specs.BookInOrder.{Orderly}
@@ -80,6 +81,8 @@ pub record ListLaws (gifts : Rule) (room : ℕ) (cs : List Call) : Type 0 where
   pub elected : (j k n : ℕ) (o : Order) → look n (day_after gifts room cs j).roll ≡ Some o → o.place ≡ StopFile
       → Fate n o.side o.price (place_of (look n (after_calls gifts room (day_after gifts room cs j) (take k (drop j cs))).roll)) (handed (day_after gifts room cs j) (after_calls gifts room (day_after gifts room cs j) (take k (drop j cs))))
   pub once : (k n : ℕ) → elections_of n (day_after gifts room cs k).tape ≤ 1
+  -- The tape has the lines that the calls handed over, one call after the other.
+  pub tape : (k : ℕ) → (day_after gifts room cs k).tape ≡ joined (tapes gifts room new_day (take k cs))
   -- Of any call that is put to the day after the first k.
   pub calls : (k : ℕ) (c : Call) → CallLaws gifts room (day_after gifts room cs k) c
   -- After each call the line is worked off, or trading is paused.
