@@ -27,3 +27,8 @@ pub mod Beginning
 pub mod History
 pub mod WorkedExamples
 pub mod FileOfRoll
+pub mod TapeGrows
+pub mod RefusalsGiven
+pub mod Standing
+pub mod Placed
+pub mod Accounts

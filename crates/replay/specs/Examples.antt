@@ -3,6 +3,8 @@ use Rattle.std.specs.Prelude.{◌≡◌, ℕ, true, false, List, [], ◌∷◌, 
 use Rattle.market.specs.declared.words.Side.TheVariants.{Buy, Sell}
 use Rattle.market.specs.declared.words.Kind.TheVariants.{Limit, Market, ImmediateOrCancel, Stop}
 use Rattle.market.specs.declared.words.Column.TheVariants.{Lower, Higher}
+use Rattle.market.specs.declared.words.Place.{Place}
+use Rattle.market.specs.declared.words.Place.TheVariants.{Nowhere, Line}
 use Rattle.market.specs.declared.words.Order.{Order}
 use Rattle.market.specs.declared.words.Range.{Range}
 use Rattle.market.specs.declared.words.TapeLine.{TapeLine}
@@ -12,7 +14,7 @@ use Rattle.sharing.specs.Turns.{by_time, by_rotation}
 use Rattle.replay.specs.Days.{Day, Rule, new_day, Call, Set, LoadLimit, LoadStop, Open, Enter, CancelOrder, FloorTrade, Resume, Close}
 use Rattle.replay.specs.Days.{Answer, Done, Number, Lines, Entered, Refused}
 use Rattle.replay.specs.Calls.{letter_l, letter_h, after_calls, answers, tapes}
-use Rattle.replay.specs.Questions.{quote, is_paused, in_force, NoSuch, record_of, totals}
+use Rattle.replay.specs.Questions.{quote, is_paused, in_force, Found, Is, NoSuch, record_of, totals}
 
 -- a day after calls, by time priority, with a stop file of 512
 abbrev pub day_of : List Call → Day
@@ -47,6 +49,9 @@ swept_out = swept ++ (Enter Market Buy 7 0 500 lines ∷ [])
 
 abbrev pub resumed_once : List Call
 resumed_once = swept_out ++ (Resume lines ∷ [])
+
+abbrev pub floor_refused : List Call
+floor_refused = resumed_once ++ (FloorTrade 2031 100 lines ∷ [])
 
 abbrev pub floor_trades : List Call
 floor_trades = resumed_once ++ (FloorTrade 2031 100 lines ∷ FloorTrade 2028 100 lines ∷ [])
@@ -94,6 +99,10 @@ one_row = usual ∷ LoadLimit Sell 1 2012 300 ∷ LoadLimit Sell 1 2012 100 ∷ 
 abbrev pub opens : Rule → List Call → List ℕ
 opens gifts cs = map (λ (o : Order). o.«open») (after_calls gifts 512 new_day cs).roll
 
+-- the record of the market buy of 500 after the sweep, with what is filled of it, what is open, and where
+abbrev pub buy_of_500 : ℕ → ℕ → Place → Found
+buy_of_500 f n w = Is (record { number = 7; member = 7; side = Buy; kind = Market; price = 0; accepted = 500; filled = f; cancelled = 0; «open» = n; place = w })
+
 -- calls that are refused, between some that are not
 abbrev pub faults : List Call
 faults = Set 4 65 100001 ∷ Set 3 65 100001 ∷ Set 3 letter_h 100001 ∷ Set 3 letter_h 100000
@@ -114,6 +123,9 @@ pub record Examples : Type 0 where
   -- the same row on the book: the rule of the day shares out
   pub row_by_rotation : opens by_rotation one_row ≡ 100 ∷ 0 ∷ 300 ∷ 0 ∷ []
   pub row_by_time : opens by_time one_row ≡ 0 ∷ 0 ∷ 400 ∷ 0 ∷ []
+  -- before the sweep: the range set at the opening, and the quotes
+  pub sweep_opening : (tape_of sweep_book ≡ []) × (is_paused (day_of sweep_book) ≡ false) × (in_force (day_of sweep_book) ≡ between 2000 2020)
+      × (quote Buy (day_of sweep_book) ≡ Some (2008, 200)) × (quote Sell (day_of sweep_book) ≡ Some (2012, 300))
   -- A sweep: the best offers, then all others needed at one price. Trading goes on, in the range set at the opening.
   pub sweep : tape_of swept ≡ Print 6 2012 300 2000 2020 ∷ Print 6 2015 700 2000 2020 ∷ []
   pub sweep_after : (is_paused (day_of swept) ≡ false) × (in_force (day_of swept) ≡ between 2000 2020) × (quote Sell (day_of swept) ≡ Some (2015, 200))
@@ -121,8 +133,17 @@ pub record Examples : Type 0 where
   pub out_of_range : tape_of swept_out ≡ Print 6 2012 300 2000 2020 ∷ Print 6 2015 700 2000 2020 ∷ Print 7 2015 200 2000 2020 ∷ []
   pub out_of_range_after : (is_paused (day_of swept_out) ≡ true) × ((day_of swept_out).line ≡ 7 ∷ []) × (in_force (day_of swept_out) ≡ between 2000 2020)
       × (quote Buy (day_of swept_out) ≡ Some (2008, 200)) × (quote Sell (day_of swept_out) ≡ Some (2030, 1000)) × (record_of 8 (day_of swept_out) ≡ NoSuch 51)
+  -- of the 500 shares 200 are filled, and 300 wait
+  pub out_of_range_order : (record_of 7 (day_of swept_out) ≡ buy_of_500 200 300 Line)
+      × (totals (day_of swept_out) ≡ record { accepted = 3900; printed = 1200; cancelled = 0; «open» = 1500 })
   -- Resume sets the range; nobody can trade, and trading is paused again
   pub resumed : (answers_of resumed_once ≡ Done ∷ Number 1 ∷ Number 2 ∷ Number 3 ∷ Number 4 ∷ Number 5 ∷ Done ∷ Entered 6 2 ∷ Entered 7 1 ∷ Lines 0 ∷ []) × (is_paused (day_of resumed_once) ≡ true) × (in_force (day_of resumed_once) ≡ between 2005 2025)
+  -- it writes no line, and the order waits as before
+  pub resumed_order : (tape_of resumed_once ≡ Print 6 2012 300 2000 2020 ∷ Print 6 2015 700 2000 2020 ∷ Print 7 2015 200 2000 2020 ∷ []) × ((day_of resumed_once).line ≡ 7 ∷ []) × (record_of 7 (day_of resumed_once) ≡ buy_of_500 200 300 Line)
+      × (quote Buy (day_of resumed_once) ≡ Some (2008, 200)) × (quote Sell (day_of resumed_once) ≡ Some (2030, 1000))
+  -- a floor trade that is refused ends no pause and sets no range
+  pub floor_refused_after : (is_paused (day_of floor_refused) ≡ true) × (in_force (day_of floor_refused) ≡ between 2005 2025) × ((day_of floor_refused).line ≡ 7 ∷ [])
+      × (record_of 7 (day_of floor_refused) ≡ buy_of_500 200 300 Line) × (quote Sell (day_of floor_refused) ≡ Some (2030, 1000))
   -- a floor trade above the best offer is refused; one below it sets the range, and the order in line runs
   pub floor : tapes by_time 512 new_day floor_trades
       ≡ [] ∷ [] ∷ [] ∷ [] ∷ [] ∷ [] ∷ [] ∷ (Print 6 2012 300 2000 2020 ∷ Print 6 2015 700 2000 2020 ∷ []) ∷ (Print 7 2015 200 2000 2020 ∷ []) ∷ [] ∷ []
@@ -130,6 +151,9 @@ pub record Examples : Type 0 where
   pub floor_answers : answers_of floor_trades
       ≡ Done ∷ Number 1 ∷ Number 2 ∷ Number 3 ∷ Number 4 ∷ Number 5 ∷ Done ∷ Entered 6 2 ∷ Entered 7 1 ∷ Lines 0 ∷ Refused 61 ∷ Lines 2 ∷ []
   pub floor_after : (is_paused (day_of floor_trades) ≡ false) × (in_force (day_of floor_trades) ≡ between 2018 2038) × (quote Sell (day_of floor_trades) ≡ Some (2030, 700))
+  -- then the order is filled whole: nothing of it is open, and nobody is in line
+  pub floor_order : (record_of 7 (day_of floor_trades) ≡ buy_of_500 500 0 Nowhere) × ((day_of floor_trades).line ≡ [])
+      × (totals (day_of floor_trades) ≡ record { accepted = 3900; printed = 1500; cancelled = 0; «open» = 900 })
   -- sells mirror buys
   pub sell : tape_of sell_swept ≡ Print 6 2008 300 2000 2020 ∷ Print 6 2005 700 2000 2020 ∷ Print 7 2005 200 2000 2020 ∷ []
   pub sell_after : (is_paused (day_of sell_swept) ≡ true) × (quote Buy (day_of sell_swept) ≡ Some (1990, 1000))

@@ -18,4 +18,8 @@ pub mod TwoRules
 pub mod Bounds
 pub mod History
 pub mod RollHolds
+pub mod TapeGrows
+pub mod RefusalsGiven
+pub mod Placed
+pub mod Accounts
 pub mod Examples

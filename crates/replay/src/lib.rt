@@ -2,16 +2,20 @@
 // every lawful share-out rule, every capacity of the stop file and every list of calls: without its proof the crate is refused.
 #![tactic(auto)]
 
+ghost use Rattle.replay.specs.Accounts.{Accounts};
 ghost use Rattle.replay.specs.BookInOrder.{BookInOrder};
 ghost use Rattle.replay.specs.Bounds.{NumbersInBounds};
 ghost use Rattle.replay.specs.Elections.{ElectedByFirst, StopsAreFiled};
 ghost use Rattle.replay.specs.Examples.{Examples};
 ghost use Rattle.replay.specs.History.{HistoryUnread};
 ghost use Rattle.replay.specs.Lines.{NeverShort, TapeSuffices, WorkedOff};
+ghost use Rattle.replay.specs.Placed.{OpenHasPlace};
 ghost use Rattle.replay.specs.RangeStays.{RangeBegins, RangeStays};
+ghost use Rattle.replay.specs.RefusalsGiven.{RefusalsGiven};
 ghost use Rattle.replay.specs.RollHolds.{RollHolds};
 ghost use Rattle.replay.specs.SharesAddUp.{SharesAddUp};
 ghost use Rattle.replay.specs.StopsUnseen.{StopsUnseen};
+ghost use Rattle.replay.specs.TapeGrows.{TapeGrows};
 ghost use Rattle.replay.specs.TwoRules.{BothRules};
 
 // Days worked out by hand come out as they should.
@@ -87,4 +91,24 @@ pub fn history_is_not_read()
 // Prices, members, class, last sale and range stay within what the market takes.
 pub fn numbers_in_bounds()
     ensures { NumbersInBounds }
+{}
+
+// What a call hands over follows what the tape had.
+pub fn tape_grows()
+    ensures { TapeGrows }
+{}
+
+// 43, 46 and 32 are given for their own causes alone; with room for 512 stops and 2,049 free lines there is no 46 and no 44.
+pub fn refusals_have_causes()
+    ensures { RefusalsGiven }
+{}
+
+// Open shares have a place: on the book, in line, or in the stop file.
+pub fn open_has_place()
+    ensures { OpenHasPlace }
+{}
+
+// Every order has whole lots: accepted, filled, cancelled and open.
+pub fn orders_have_whole_lots()
+    ensures { Accounts }
 {}
