@@ -26,6 +26,7 @@ use Rattle.replay.proofs.Runs.{Sound}
 use Rattle.replay.proofs.Calls.{calls_sound, new_sound}
 use Rattle.replay.proofs.Accepted.{shares_add_up}
 use Rattle.replay.proofs.Places.{roll_holds}
+use Rattle.replay.proofs.RefusalsGiven.{causes}
 use Rattle.replay.proofs.Queue.{never_short}
 use Rattle.playback.specs.declared.call.Call.{Call as Asked}
 use Rattle.playback.specs.Stages.{call_of}
@@ -35,7 +36,7 @@ use Rattle.session.specs.Above.{tape_line, tape_in, number_on, numbers_in, line_
 use Rattle.session.proofs.Along.{Along, along_append}
 use Rattle.session.proofs.Said.{tape_pieces, tape_said, tape_after, numbers_said, lines_said}
 use Rattle.session.proofs.Counting.{brings_order, said_first, became_count}
-use Rattle.session.proofs.Numbered.{Lettered, Said, lent_lines, known, no_column, closed_refuses, never_full}
+use Rattle.session.proofs.Numbered.{Lettered, Said, lent_lines, known, no_column, closed_refuses}
 
 -- a refused call prints its refusal, and nothing else
 no_closing : (f : Phase) (e : Day) → f ≡ e.phase → closing f e ≡ []
@@ -148,7 +149,7 @@ module _ (gifts : Rule) (lawful : LawfulRule gifts) (room free whole : ℕ) wher
         column = λ z. no_column room free d c h (e ∙ ap Some z);
         roll = λ z. s.numbers ∙ full (λ small. roll_holds.room_left room d (call_of free c) small (e ∙ ap Some z));
         tape = λ z. less free 2049 (λ big. never_short gifts lawful room l.past (call_of free c) (lent_lines free c big) (ap (λ y. refusal (checks room y (call_of free c))) (sym l.reached) ∙ e ∙ ap Some z));
-        file = λ z. less room 512 (λ big. never_full room d (call_of free c) big (e ∙ ap Some z));
+        file = λ z. less room 512 (λ big. (causes room d).file_holds (call_of free c) big (e ∙ ap Some z));
       }
 
   along_tape : (above : List Printed) (ls : List TapeLine) → Unclosed above → Along (Stands room free whole) above (map Tape ls)
