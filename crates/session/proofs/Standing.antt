@@ -30,6 +30,7 @@ use Rattle.replay.proofs.RefusalsGiven.{causes}
 use Rattle.replay.proofs.Queue.{never_short}
 use Rattle.playback.specs.declared.call.Call.{Call as Asked}
 use Rattle.playback.specs.Stages.{call_of}
+use Rattle.playback.proofs.OneMore.{after_more, brought_more}
 use Rattle.session.specs.Hearing.{calls_among}
 use Rattle.session.specs.Transcripts.{layer_of, spoken, totals_line, closing, said, printed}
 use Rattle.session.specs.Above.{tape_line, tape_in, number_on, numbers_in, line_refused, lines_refused, NoTotals, Unclosed, ByMarket, Meets, AddsUp, Stands}
@@ -63,18 +64,6 @@ closed_phase Closed e = refl
 
 market_layer : (r : Refusal) → layer_of (number_of r) ≡ layers.Market
 market_layer = elim [ Class ↦ refl | Column ↦ refl | LastSale ↦ refl | Price ↦ refl | Shares ↦ refl | RollFull ↦ refl | TapeShort ↦ refl | LocksBook ↦ refl | StopFileFull ↦ refl | Member ↦ refl | NoSuchOrder ↦ refl | OtherMember ↦ refl | NothingOpen ↦ refl | OutsideQuote ↦ refl | NotPaused ↦ refl ]
-
--- one call more
-after_more : (gifts : Rule) (room : ℕ) (d : Day) (cs : List Call) (c : Call) → after_calls gifts room d (cs ++ c ∷ []) ≡ (step gifts room (after_calls gifts room d cs) c).day
-unfolding after_calls
-after_more gifts room d [] c = refl
-after_more gifts room d (x ∷ cs) c = after_more gifts room (step gifts room d x).day cs c
-
-brought_more : (gifts : Rule) (room : ℕ) (d : Day) (cs : List Call) (c : Call)
-    → brought_in gifts room d (cs ++ c ∷ []) ≡ brought_in gifts room d cs + if_performed (refusal (checks room (after_calls gifts room d cs) c)) (brings c)
-unfolding after_calls brought_in
-brought_more gifts room d [] c = omega arith
-brought_more gifts room d (x ∷ cs) c = omega (arith, brought_more gifts room (step gifts room d x).day cs c)
 
 -- a closed day takes no order
 none_brought : (gifts : Rule) (room : ℕ) (d : Day) (cs : List Call) → d.phase ≡ Closed → brought_in gifts room d cs ≡ 0
