@@ -1,17 +1,12 @@
 -- Which numbers a refusal can have: those of faults, and those of calls.
-use Rattle.std.proofs.Common.{◌≡◌, ℕ, ◌≤◌, Bool, true, false, cond, not, ◌&&◌, ◌||◌, ◌⊎◌, inl, inr, List, [], ◌∷◌, length, ◌++◌, slice_index, Some, None, Option, Result, Ok, Err, sym, refl, ap, ◌∙◌, subst, arith, eqb, leb, ltb}
+use Rattle.std.proofs.Common.{◌≡◌, ℕ, ◌≤◌, Bool, true, false, cond, not, ◌⊎◌, inl, inr, ⊎_elim, List, [], ◌∷◌, length, slice_index, Some, None, Option, Result, Ok, Err, sym, refl, ap, ◌∙◌, subst, arith, eqb}
 use Rattle.std.specs.List.{AllByRecursion}
-use Rattle.std.proofs.lemmas.Bool.{eqb-true, leb-true, leb-false, and_parts}
+use Rattle.std.proofs.lemmas.Bool.{eqb-true}
 use Rattle.market.specs.declared.refusal.Refusal.{Refusal}
 use Rattle.market.specs.declared.refusal.Refusal.TheVariants.{Class, Column, LastSale, Price, Shares, RollFull, TapeShort, LocksBook, StopFileFull, Member, NoSuchOrder, OtherMember, NothingOpen, OutsideQuote, NotPaused}
 use Rattle.market.specs.declared.words.Column.{Column as Letter}
 use Rattle.market.specs.declared.words.Column.TheVariants.{Lower, Higher}
-use Rattle.market.specs.declared.words.Kind.{Kind}
-use Rattle.market.specs.declared.words.Kind.TheVariants as kinds
 use Rattle.market.specs.declared.words.Side.{Side}
-use Rattle.market.specs.declared.words.Order.{Order}
-use Rattle.market.specs.declared.words.Place.{Place}
-use Rattle.market.specs.declared.words.Place.TheVariants.{Nowhere, Book, Line, StopFile}
 use Rattle.market.specs.declared.words.PricedOrder.{PricedOrder}
 use Rattle.market.specs.Refusals.{number_of}
 use Rattle.text.specs.declared.fault.LineFault.{LineFault}
@@ -24,10 +19,10 @@ use Rattle.text.specs.Cuts.{field_at, field_count}
 use Rattle.text.specs.declared.refusal.Refusal.TheVariants.{FieldCount}
 use Rattle.text.specs.Reading.{fault_at, set_from, priced_from, market_from, pair_from, as_record, record_as, record_in, set_in, priced_in, market_in, pair_in}
 use Rattle.replay.specs.Days.{Day, Phase, Loading, Trading, Closed, Call, Set, LoadLimit, LoadStop, Open, Enter, CancelOrder, FloorTrade, Resume, Close}
-use Rattle.replay.specs.Rolls.{is_stop, filed, is_filed}
-use Rattle.replay.specs.Lists.{only}
-use Rattle.replay.specs.Calls.{Check, check, first_of, refusal, is_phase, only_in, order_checks, file_full, need, checks}
+use Rattle.replay.specs.Calls.{Check, first_of, refusal, is_phase, checks}
 use Rattle.replay.specs.Lines.{free_lines}
+use Rattle.replay.specs.RefusalsGiven.{BadColumn}
+use Rattle.replay.proofs.RefusalsGiven.{causes}
 use Rattle.playback.specs.declared.call.Call.{Call as Asked}
 use Rattle.playback.specs.declared.call.Call.TheVariants as asked
 use Rattle.playback.specs.Stages.{call_of}
@@ -110,7 +105,7 @@ record_fault line = go (eqb (length (field_at 0 line)) 1)
 -- calls ------------------------------------------------------------------------------------------------------------------
 -- the letter of a column is L or H
 abbrev pub Lettered : Asked → Type 0
-Lettered (asked.Set k c p) = (eqb c 76 || eqb c 72) ≡ true
+Lettered (asked.Set k c p) = (c ≡ 76) ⊎ (c ≡ 72)
 Lettered (asked.LoadLimit o) = Unit {0}
 Lettered (asked.LoadStop o) = Unit {0}
 Lettered asked.Open = Unit {0}
@@ -120,9 +115,9 @@ Lettered (asked.FloorTrade p q) = Unit {0}
 Lettered asked.Resume = Unit {0}
 Lettered asked.Close = Unit {0}
 
-column_lettered : (c : Letter) → (eqb (column_letter c) 76 || eqb (column_letter c) 72) ≡ true
-column_lettered Lower = refl
-column_lettered Higher = refl
+column_lettered : (c : Letter) → (column_letter c ≡ 76) ⊎ (column_letter c ≡ 72)
+column_lettered Lower = inl refl
+column_lettered Higher = inr refl
 
 limit_lettered : (f : Phase) (o : PricedOrder) → Lettered (limit_call f o)
 limit_lettered Loading o = tt
@@ -204,26 +199,20 @@ known room d (FloorTrade p q f) k e = refused_with Known (checks room d (FloorTr
 known room d (Resume f) k e = refused_with Known (checks room d (Resume f)) k (late, (of NotPaused, (of TapeShort, tt))) e
 known room d Close k e = refused_with Known (checks room d Close) k (late, tt) e
 
--- no call of a text is refused for its column
-no_code : (k : ℕ) (cs : List Check) → AllByRecursion (λ (c : Check). c.code ≡ k → ⊥) cs → refusal cs ≡ Some k → ⊥
-no_code k cs a e = refused_with (λ j. j ≡ k → ⊥) cs k (go cs a) e refl
-  where
-    go : (cs : List Check) → AllByRecursion (λ (c : Check). c.code ≡ k → ⊥) cs → AllByRecursion (λ (c : Check). c.fails ≡ true → c.code ≡ k → ⊥) cs
-    go [] a = tt
-    go (c ∷ cs) a = ((λ f. a.0), go cs a.1)
-
+-- the letter of a column is never what a call of a text is refused for
 pub no_column : (room free : ℕ) (d : Day) (c : Asked) → Lettered c → refusal (checks room d (call_of free c)) ≡ Some 32 → ⊥
-unfolding checks
-no_column room free d (asked.Set a b p) l e =
-    refused_with (λ j. j ≡ 32 → ⊥) (checks room d (Set a b p)) 32 ((λ f g. omega arith), ((λ f g. omega arith), ((λ f g. (let z : ◌≡◌ {A = Bool} true false = sym f ∙ ap not l in cc)), ((λ f g. omega arith), tt)))) e refl
-no_column room free d (asked.LoadLimit o) l e = no_code 32 (checks room d (call_of free (asked.LoadLimit o))) (omega arith) e
-no_column room free d (asked.LoadStop o) l e = no_code 32 (checks room d (call_of free (asked.LoadStop o))) (omega arith) e
-no_column room free d asked.Open l e = no_code 32 (checks room d Open) (omega arith) e
-no_column room free d (asked.Enter t) l e = no_code 32 (checks room d (call_of free (asked.Enter t))) (omega arith) e
-no_column room free d (asked.Cancel m n) l e = no_code 32 (checks room d (CancelOrder m n free)) (omega arith) e
-no_column room free d (asked.FloorTrade p q) l e = no_code 32 (checks room d (FloorTrade p q free)) (omega arith) e
-no_column room free d asked.Resume l e = no_code 32 (checks room d (Resume free)) (omega arith) e
-no_column room free d asked.Close l e = no_code 32 (checks room d Close) (omega arith) e
+no_column room free d c l e = go c l ((causes room d).only_column (call_of free c) e)
+  where
+    go : (c : Asked) → Lettered c → BadColumn (call_of free c) → ⊥
+    go (asked.Set k x p) l b = ⊎_elim b.0 b.1 l
+    go (asked.LoadLimit o) l b = b
+    go (asked.LoadStop o) l b = b
+    go asked.Open l b = b
+    go (asked.Enter t) l b = b
+    go (asked.Cancel m n) l b = b
+    go (asked.FloorTrade p q) l b = b
+    go asked.Resume l b = b
+    go asked.Close l b = b
 
 -- a closed day refuses every call
 late_first : (f : Phase → Bool) (p : Phase) (x : Option ℕ) → p ≡ Closed → f Closed ≡ false → first_of (not (f p)) 21 x ≡ Some 21
@@ -240,42 +229,3 @@ closed_refuses room d (CancelOrder m n g) e = late_first (is_phase Trading) d.ph
 closed_refuses room d (FloorTrade p q g) e = late_first (is_phase Trading) d.phase _ e refl
 closed_refuses room d (Resume g) e = late_first (is_phase Trading) d.phase _ e refl
 closed_refuses room d Close e = late_first (is_phase Trading) d.phase _ e refl
-
--- with 512 places no call is refused for want of a place in the stop file: the roll is full before
-passed : (cs zs : List Check) (k : ℕ) → AllByRecursion (λ (c : Check). c.code ≡ k → ⊥) cs → refusal (cs ++ zs) ≡ Some k → AllByRecursion (λ (c : Check). c.fails ≡ false) cs × (refusal zs ≡ Some k)
-passed [] zs k a e = (tt, e)
-passed (c ∷ cs) zs k a e = go c.fails refl e (passed cs zs k a.1)
-  where
-    go : (b : Bool) → c.fails ≡ b → first_of b c.code (refusal (cs ++ zs)) ≡ Some k → (refusal (cs ++ zs) ≡ Some k → AllByRecursion (λ (c : Check). c.fails ≡ false) cs × (refusal zs ≡ Some k))
-        → ((c.fails ≡ false) × AllByRecursion (λ (c : Check). c.fails ≡ false) cs) × (refusal zs ≡ Some k)
-    go true f e ih = absurd (a.0 cc)
-    go false f e ih = let r : AllByRecursion (λ (c : Check). c.fails ≡ false) cs × (refusal zs ≡ Some k) = ih e in ((f, r.0), r.1)
-
-filed_most : (os : List Order) → filed os ≤ length os
-filed_most [] = omega arith
-filed_most (o ∷ os) = omega (arith, go o.place, filed_most os)
-  where
-    go : (w : Place) → only (is_filed w) 1 ≤ 1
-    go Book = omega arith
-    go Line = omega arith
-    go StopFile = omega arith
-    go Nowhere = omega arith
-
-file_small : (room : ℕ) (k : Kind) (d : Day) → (is_stop k && leb room (filed d.roll)) ≡ true → leb 512 (length d.roll) ≡ false → 512 ≤ room → ⊥
-file_small room k d e f h = omega (arith, leb-true room (filed d.roll) (and_parts (is_stop k) (leb room (filed d.roll)) e).1, filed_most d.roll, leb-false 512 (length d.roll) f)
-
-pub never_full : (room : ℕ) (d : Day) (c : Call) → 512 ≤ room → refusal (checks room d c) ≡ Some 46 → ⊥
-unfolding checks
-never_full room d (Set a b p) h e = no_code 46 (checks room d (Set a b p)) (omega arith) e
-never_full room d (LoadLimit s m p q) h e = no_code 46 (checks room d (LoadLimit s m p q)) (omega arith) e
-never_full room d (LoadStop s m p q) h e =
-    let x : _ = passed (only_in Loading d ∷ order_checks kinds.Stop m p q d) (file_full room kinds.Stop d ∷ []) 46 (omega arith) e in
-    file_small room kinds.Stop d (refused_with (λ j. (is_stop kinds.Stop && leb room (filed d.roll)) ≡ true) (file_full room kinds.Stop d ∷ []) 46 ((λ f. f), tt) x.1) x.0.1.1.1.1.0 h
-never_full room d Open h e = no_code 46 (checks room d Open) (omega arith) e
-never_full room d (Enter k s m p q f) h e =
-    let x : _ = passed (only_in Trading d ∷ order_checks k m p q d) (file_full room k d ∷ check (ltb f (need 1 d)) 44 ∷ []) 46 (omega arith) e in
-    file_small room k d (refused_with (λ j. j ≡ 46 → (is_stop k && leb room (filed d.roll)) ≡ true) (file_full room k d ∷ check (ltb f (need 1 d)) 44 ∷ []) 46 ((λ f g. f), ((λ f g. absurd (omega arith)), tt)) x.1 refl) x.0.1.1.1.1.0 h
-never_full room d (CancelOrder m n f) h e = no_code 46 (checks room d (CancelOrder m n f)) (omega arith) e
-never_full room d (FloorTrade p q f) h e = no_code 46 (checks room d (FloorTrade p q f)) (omega arith) e
-never_full room d (Resume f) h e = no_code 46 (checks room d (Resume f)) (omega arith) e
-never_full room d Close h e = no_code 46 (checks room d Close) (omega arith) e

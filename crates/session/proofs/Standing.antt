@@ -26,16 +26,18 @@ use Rattle.replay.proofs.Runs.{Sound}
 use Rattle.replay.proofs.Calls.{calls_sound, new_sound}
 use Rattle.replay.proofs.Accepted.{shares_add_up}
 use Rattle.replay.proofs.Places.{roll_holds}
+use Rattle.replay.proofs.RefusalsGiven.{causes}
 use Rattle.replay.proofs.Queue.{never_short}
 use Rattle.playback.specs.declared.call.Call.{Call as Asked}
 use Rattle.playback.specs.Stages.{call_of}
+use Rattle.playback.proofs.OneMore.{after_more, brought_more}
 use Rattle.session.specs.Hearing.{calls_among}
 use Rattle.session.specs.Transcripts.{layer_of, spoken, totals_line, closing, said, printed}
 use Rattle.session.specs.Above.{tape_line, tape_in, number_on, numbers_in, line_refused, lines_refused, NoTotals, Unclosed, ByMarket, Meets, AddsUp, Stands}
 use Rattle.session.proofs.Along.{Along, along_append}
 use Rattle.session.proofs.Said.{tape_pieces, tape_said, tape_after, numbers_said, lines_said}
 use Rattle.session.proofs.Counting.{brings_order, said_first, became_count}
-use Rattle.session.proofs.Numbered.{Lettered, Said, lent_lines, known, no_column, closed_refuses, never_full}
+use Rattle.session.proofs.Numbered.{Lettered, Said, lent_lines, known, no_column, closed_refuses}
 
 -- a refused call prints its refusal, and nothing else
 no_closing : (f : Phase) (e : Day) → f ≡ e.phase → closing f e ≡ []
@@ -62,18 +64,6 @@ closed_phase Closed e = refl
 
 market_layer : (r : Refusal) → layer_of (number_of r) ≡ layers.Market
 market_layer = elim [ Class ↦ refl | Column ↦ refl | LastSale ↦ refl | Price ↦ refl | Shares ↦ refl | RollFull ↦ refl | TapeShort ↦ refl | LocksBook ↦ refl | StopFileFull ↦ refl | Member ↦ refl | NoSuchOrder ↦ refl | OtherMember ↦ refl | NothingOpen ↦ refl | OutsideQuote ↦ refl | NotPaused ↦ refl ]
-
--- one call more
-after_more : (gifts : Rule) (room : ℕ) (d : Day) (cs : List Call) (c : Call) → after_calls gifts room d (cs ++ c ∷ []) ≡ (step gifts room (after_calls gifts room d cs) c).day
-unfolding after_calls
-after_more gifts room d [] c = refl
-after_more gifts room d (x ∷ cs) c = after_more gifts room (step gifts room d x).day cs c
-
-brought_more : (gifts : Rule) (room : ℕ) (d : Day) (cs : List Call) (c : Call)
-    → brought_in gifts room d (cs ++ c ∷ []) ≡ brought_in gifts room d cs + if_performed (refusal (checks room (after_calls gifts room d cs) c)) (brings c)
-unfolding after_calls brought_in
-brought_more gifts room d [] c = omega arith
-brought_more gifts room d (x ∷ cs) c = omega (arith, brought_more gifts room (step gifts room d x).day cs c)
 
 -- a closed day takes no order
 none_brought : (gifts : Rule) (room : ℕ) (d : Day) (cs : List Call) → d.phase ≡ Closed → brought_in gifts room d cs ≡ 0
@@ -148,7 +138,7 @@ module _ (gifts : Rule) (lawful : LawfulRule gifts) (room free whole : ℕ) wher
         column = λ z. no_column room free d c h (e ∙ ap Some z);
         roll = λ z. s.numbers ∙ full (λ small. roll_holds.room_left room d (call_of free c) small (e ∙ ap Some z));
         tape = λ z. less free 2049 (λ big. never_short gifts lawful room l.past (call_of free c) (lent_lines free c big) (ap (λ y. refusal (checks room y (call_of free c))) (sym l.reached) ∙ e ∙ ap Some z));
-        file = λ z. less room 512 (λ big. never_full room d (call_of free c) big (e ∙ ap Some z));
+        file = λ z. less room 512 (λ big. (causes room d).file_holds (call_of free c) big (e ∙ ap Some z));
       }
 
   along_tape : (above : List Printed) (ls : List TapeLine) → Unclosed above → Along (Stands room free whole) above (map Tape ls)
