@@ -74,7 +74,7 @@ pub record ListLaws (gifts : Rule) (room : ℕ) (cs : List Call) : Type 0 where
   pub placed : (k : ℕ) → Placed (day_after gifts room cs k)
   pub lots : (k : ℕ) → AllByRecursion WholeLots (day_after gifts room cs k).roll
   pub bounds : (k : ℕ) → Bounds (day_after gifts room cs k)
-  -- A stop is filed from its own call on.
+  -- After its own call a stop is in the file.
   pub filed : (k : ℕ) → FiledAtOnce gifts room (day_after gifts room cs k)
   -- Of a stop that is filed after j calls, the lines of the next k calls tell that it is still asleep, was cancelled asleep, or was elected by the
   -- first line that reached it; and no order is elected twice.

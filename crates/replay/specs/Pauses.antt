@@ -25,7 +25,7 @@ RunPauses gifts d = (n : ℕ) (ns : List ℕ) (r : Order) → d.paused ≡ false
 
 -- The days of a performed call, d before it, after each number of turns of the line.
 pub record PauseOfRuns (gifts : Rule) (room : ℕ) (d : Day) (c : Call) : Type 0 where
-  -- while trading is not paused, the first in line runs, and that pauses it or not
+  -- as long as there is no pause, the first in line runs, and begins one or not
   pub run : (k : ℕ) → RunPauses gifts (turns gifts k (start_of d c))
   -- once it is paused, the call does nothing more
   pub over : (k : ℕ) → (turns gifts k (start_of d c)).paused ≡ true → (step gifts room d c).day ≡ turns gifts k (start_of d c)

@@ -43,7 +43,7 @@ pub fn elected_by_the_first()
     ensures { ElectedByFirst }
 {}
 
-// A stop is filed from its own call on.
+// After its own call a stop is in the file.
 pub fn filed_at_once()
     ensures { StopsAreFiled }
 {}
