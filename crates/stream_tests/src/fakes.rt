@@ -12,7 +12,7 @@ pub struct Pieces<'a> {
 }
 
 impl<'a> Pieces<'a> {
-    pub fn new(text: &'a [u8], piece: usize) -> Pieces<'a> {
+    pub(crate) fn new(text: &'a [u8], piece: usize) -> Pieces<'a> {
         Pieces {
             rest: text,
             piece,
@@ -22,7 +22,7 @@ impl<'a> Pieces<'a> {
     }
 
     // Fails behind the text, once, and would end after that.
-    pub fn failing(text: &'a [u8], piece: usize) -> Pieces<'a> {
+    pub(crate) fn failing(text: &'a [u8], piece: usize) -> Pieces<'a> {
         Pieces {
             rest: text,
             piece,
@@ -60,7 +60,7 @@ pub struct Narrow<'a> {
 }
 
 impl<'a> Narrow<'a> {
-    pub fn new(taken: &'a mut Vec<u8>, piece: usize) -> Narrow<'a> {
+    pub(crate) fn new(taken: &'a mut Vec<u8>, piece: usize) -> Narrow<'a> {
         Narrow {
             taken,
             piece,
@@ -71,7 +71,7 @@ impl<'a> Narrow<'a> {
     }
 
     // After so many bytes one write fails, or takes nothing where no failure is given. Further ones would succeed.
-    pub fn failing(
+    pub(crate) fn failing(
         taken: &'a mut Vec<u8>,
         piece: usize,
         room: usize,
