@@ -1,3 +1,4 @@
+pub mod Boards
 pub mod Stepping
 pub mod Telling
 pub mod OneMore

@@ -10,8 +10,6 @@ use Rattle.replay.specs.StopFile.{file_of}
 use Rattle.trading.specs.Deeds.{Did}
 use Rattle.playback.specs.declared.reply.Reply.{Reply}
 use Rattle.playback.specs.declared.reply.CallRefusal.{CallRefusal}
-use Rattle.playback.specs.declared.stage.Stage.{Stage}
-use Rattle.playback.specs.declared.stage.Stage.TheVariants.{Load, Trade, Shut}
 use Rattle.playback.specs.Replies.{answer_of}
 use Rattle.playback.specs.Stages.{day_in}
 use Rattle.playback.specs.Reached.{Unaltered}
@@ -49,10 +47,3 @@ unaltered {gifts} {room} {d} {e} {c} {ls = ls} (Err r) b f x =
       stops = x.file ∙ ap (λ (y : Day). file_of y.roll) day ∙ sym f;
       lines = x.lines ∙ ap (λ t. t ++ drop (length t) ls) none;
     }
-
-module _ {R F : Type 0} {g : _} where
-  -- a stage keeps no history
-  pub stage_bare : (st : Stage R F g) → bare (day_in st) ≡ day_in st
-  stage_bare (Load d) = refl
-  stage_bare (Trade d) = refl
-  stage_bare (Shut d) = refl

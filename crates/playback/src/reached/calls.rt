@@ -1,6 +1,7 @@
 // The calls that are put to a day, and the questions.
 ghost use Rattle.std.specs.Prelude.{◌≡◌, ◌≤◌, List, OnErr, length, take};
 ghost use Rattle.replay.specs.Days.{Call as DayCall, new_day};
+ghost use Rattle.trading.specs.Boards.{day_of};
 ghost use Rattle.trading.specs.Deeds.{Did};
 ghost use Rattle.playback.specs.Phases.{phase_of};
 ghost use Rattle.playback.specs.Replies.{answer_of, lines_of};
@@ -31,9 +32,10 @@ impl<R: ShareOut, F: StopFile> ReachedDay<R, F> {
         }
     }
 
-    // What questions may be put to.
+    // What questions may be put to: their answers are those of the day that calls have reached.
     pub fn board(&self) -> &Board
-        ensures { result.now ≡ board_at self.now }
+        ensures board { result.now ≡ board_at self.now }
+        ensures day { day_of (day_at self.now).phase result.now ≡ day_at self.now }
     {
         self.stage.board()
     }

@@ -44,7 +44,7 @@ loop-call-preserved g c =
     let more : map (call_of n) (take (i + 1) xs) ≡ cs ++ call_of n x ∷ [] = ap (map (call_of n)) (take_more xs i (Set 0 0 0) lt) ∙ map-append (call_of n) (take i xs) (x ∷ []) in
     let used : c.map_or-used.result ≡ lines_of c.put-reply.result = search rules in
     let count : c.map_or-used.result - 0 ≡ lines_of c.put-reply.result = omega (arith, used) in
-    let view = view_at day.stage c.of.ensures c.board.ensures in
+    let view = view_at day.stage c.of.ensures c.board.ensures.board in
     let tells = subst (λ s. g.N.Notes.notes c.loop-call.notes s c.note.new.self) (sym (telling c.put-reply.result w c.of.result _ count view)) c.note.ensures in
     record {
       long = c.put-reply.auto.lines ∙ v.long;

@@ -44,7 +44,7 @@ loop-rest-preserved g c =
       midway =
           went_on put.result v.midway (ap g.R.ShareOut.gifts v.rule) v.room first.result.«record» first.ensures.answer put.ensures.came first.result.rest.now (g.K.Sink.state c.show.new.sink) v.long some first.ensures.rest
           (subst (λ t. put_more (bytes_of (shown n put.result put.new.lines (is_phase Closed (day_at put.new.day).phase && not (is_phase Closed (day_at c.loop-rest.day).phase)) t)))
-          (ap (λ (b : Board). totals (day_of Closed b)) c.board.ensures ∙ totals_at put.new.day)
+          (ap (λ (b : Board). totals (day_of Closed b)) c.board.ensures.board ∙ totals_at put.new.day)
           (subst (λ b. put_more (bytes_of (shown n put.result put.new.lines b (totals (day_of Closed c.board.result.now)))))
           (c.just_closed-closed.ensures ∙ ap (λ b. is_phase Closed (day_at put.new.day).phase && not b) c.is_closed-was_closed.ensures)
           c.show.ensures));

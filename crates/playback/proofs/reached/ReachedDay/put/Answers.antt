@@ -3,7 +3,8 @@ use Rattle.replay.specs.StopFile.{file_of}
 use Rattle.playback.specs.declared.stage.Stage.{Stage}
 use Rattle.playback.specs.declared.stage.Stage.TheVariants.{Load, Trade, Shut}
 use Rattle.playback.specs.Stages.{day_in, file_in, rule_in}
-use Rattle.playback.proofs.Refusing.{unaltered, stage_bare}
+use Rattle.playback.proofs.Boards.{stage_bare}
+use Rattle.playback.proofs.Refusing.{unaltered}
 use Rattle.playback.proofs.OneMore.{reached_more, went, adds_reached, fits_reached}
 use Rattle.playback.proofs.reached.ReachedDay.put.Goals as goal
 
