@@ -1,9 +1,10 @@
 // A session is put call by call to a day, under both rules and with both stop files.
 use crate::lent::{NO_LINE, NO_STOP};
+use crate::questions::{Asked, are_answered};
 use crate::replays::verdict;
 use crate::seen::{Line, answer_of, line_of, mode_of};
-use crate::sessions::{Asked, Row, Session};
-use market::words::{Place, TapeLine};
+use crate::sessions::{Row, Session};
+use market::words::TapeLine;
 use playback::reached::ReachedDay;
 use playback::reply::{Reply, View};
 use sharing::rotation::Rotation;
@@ -28,22 +29,25 @@ fn is_next<'a>(written: &[TapeLine], tape: &'a [Line]) -> Option<&'a [Line]> {
     }
 }
 
-// An order waits in line with so many shares open, if that is asked after this call.
-fn is_waiting<R: ShareOut, F: StopFile>(
-    day: &ReachedDay<R, F>,
-    asked: Option<Asked>,
-    index: usize,
-) -> bool {
-    match asked {
-        Some(Asked { after, order, open }) if after == index => match day.board().order(order) {
-            Ok(found) => found.place == Place::Line && found.open == open,
-            Err(_) => false,
-        },
-        _ => true,
+// A call answers and leaves the day as its row says, and writes the next lines of the tape: what the tape has beyond them.
+pub(crate) fn put_row<'a, R: ShareOut, F: StopFile>(
+    day: &mut ReachedDay<R, F>,
+    row: Row,
+    tape: &'a [Line],
+    lines: &mut [TapeLine],
+) -> Option<&'a [Line]> {
+    let Row(step, answer, mode) = row;
+    let reply = day.put(step.call(), lines);
+    let written = lines.get(..reply.map_or(0, Reply::lines))?;
+    let beyond = is_next(written, tape)?;
+    if answer_of(reply) == answer && mode_of(View::of(day.board())) == mode {
+        Some(beyond)
+    } else {
+        None
     }
 }
 
-// Each call answers and leaves the day as its row says, and writes the next lines of the tape.
+// Each call goes as its row says, and what is asked after it is answered as expected; none is asked after a call that is not there.
 fn goes_as_expected<R: ShareOut, F: StopFile>(
     day: &mut ReachedDay<R, F>,
     session: &Session<'_>,
@@ -52,23 +56,16 @@ fn goes_as_expected<R: ShareOut, F: StopFile>(
 ) -> bool {
     let mut rest = tape;
     for (index, row) in session.rows.iter().enumerate() {
-        let Row(step, answer, mode) = *row;
-        let reply = day.put(step.call(), lines);
-        let Some(written) = lines.get(..reply.map_or(0, Reply::lines)) else {
-            return false;
-        };
-        let Some(beyond) = is_next(written, rest) else {
+        let Some(beyond) = put_row(day, *row, rest, lines) else {
             return false;
         };
         rest = beyond;
-        if answer_of(reply) != answer
-            || mode_of(View::of(day.board())) != mode
-            || !is_waiting(day, session.asked, index)
-        {
+        if !are_answered(day.board(), session.asked, index) {
             return false;
         }
     }
-    rest.is_empty()
+    let calls = session.rows.len();
+    rest.is_empty() && session.asked.iter().all(|Asked(after, _)| *after < calls)
 }
 
 // With either stop file; the lines suffice for any call.

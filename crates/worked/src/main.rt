@@ -3,16 +3,23 @@
 
 mod call_by_call;
 mod compare;
+mod examples;
+mod faults;
+mod few_lines;
 mod full_roll;
 mod lent;
+mod pauses;
+mod questions;
 mod replays;
 mod seen;
 mod sessions;
 mod single_calls;
 mod steps;
 
+use crate::examples::EXAMPLES;
+use crate::pauses::PAUSES;
 use crate::replays::{show, show_narrow};
-use crate::sessions::{MISTOLD, NARROW, Row, SESSIONS, Session};
+use crate::sessions::{MISASKED, MISTOLD, NARROW, Row, SESSIONS, Session};
 use std::io;
 
 // Nothing trades while the roll fills.
@@ -22,38 +29,48 @@ fn full<'a>(name: &'a str, rows: &'a [Row]) -> Session<'a> {
         rows,
         by_time: &[],
         by_turns: &[],
-        asked: None,
+        asked: &[],
     }
 }
 
-fn show_replays(rt: &impl Print) -> io::Result<()> {
-    for session in &SESSIONS {
+fn show_replays(rt: &impl Print, sessions: &[Session<'_>]) -> io::Result<()> {
+    for session in sessions {
         show(rt, session)?;
     }
+    Ok(())
+}
+
+fn show_all_replays(rt: &impl Print) -> io::Result<()> {
+    show_replays(rt, &SESSIONS)?;
     show(rt, &full("512 orders loaded", &full_roll::loaded()))?;
     show(rt, &full("512 orders entered", &full_roll::entered()))?;
     show_narrow(rt, &NARROW)?;
     single_calls::show(rt)?;
-    for session in &MISTOLD {
-        show(rt, session)?;
+    show_replays(rt, &EXAMPLES)?;
+    show_replays(rt, &PAUSES)?;
+    show_replays(rt, &MISTOLD)
+}
+
+fn show_call_by_call(rt: &impl Print, sessions: &[Session<'_>]) -> io::Result<()> {
+    for session in sessions {
+        call_by_call::show(rt, session)?;
     }
     Ok(())
 }
 
-fn show_call_by_call(rt: &impl Print) -> io::Result<()> {
-    for session in &SESSIONS {
-        call_by_call::show(rt, session)?;
-    }
+fn show_all_call_by_call(rt: &impl Print) -> io::Result<()> {
+    show_call_by_call(rt, &SESSIONS)?;
     call_by_call::show(rt, &full("512 orders loaded", &full_roll::loaded()))?;
     call_by_call::show(rt, &full("512 orders entered", &full_roll::entered()))?;
     call_by_call::show_narrow(rt, &NARROW)?;
-    for session in &MISTOLD {
-        call_by_call::show(rt, session)?;
-    }
-    Ok(())
+    show_call_by_call(rt, &EXAMPLES)?;
+    show_call_by_call(rt, &PAUSES)?;
+    few_lines::show(rt)?;
+    show_call_by_call(rt, &MISTOLD)?;
+    show_call_by_call(rt, &MISASKED)
 }
 
 fn main(rt: HostRuntime) -> io::Result<()> {
-    show_replays(&rt)?;
-    show_call_by_call(&rt)
+    show_all_replays(&rt)?;
+    show_all_call_by_call(&rt)
 }
