@@ -2,8 +2,8 @@
 #![tactic(auto)]
 
 #[cfg(test)]
+mod ends;
+#[cfg(test)]
 mod fakes;
 #[cfg(test)]
 mod inspection;
-#[cfg(test)]
-mod streams;
