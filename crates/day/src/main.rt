@@ -1,17 +1,10 @@
 // Replays a day file, given on standard input, and prints what comes of it.
 #![tactic(auto)]
 
-use session::day::replay_day;
+use session::day::replay_stream;
 use std::io;
-use std::io::{Read, Write};
-use text::inspection::INPUT_LIMIT;
+use streams::kept::Kept;
 
 fn main(rt: HostRuntime) -> io::Result<()> {
-    let mut input: Vec<u8> = Vec::new(rt.alloc());
-    // one byte past the limit tells that there is more
-    let mut source = rt.stdin().take(INPUT_LIMIT as u64 + 1);
-    let _ = source.read_to_end(&mut input)?;
-    let shown = replay_day(rt.alloc(), input.as_slice())?;
-    let mut out = rt.stdout();
-    out.write_all(shown.as_slice())
+    replay_stream(&mut Kept::new(rt.stdin()), &mut Kept::new(rt.stdout()))
 }

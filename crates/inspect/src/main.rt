@@ -2,15 +2,9 @@
 #![tactic(auto)]
 
 use std::io;
-use std::io::{Read, Write};
-use text::inspection::{INPUT_LIMIT, inspect};
+use streams::kept::Kept;
+use text::inspection::inspect_stream;
 
 fn main(rt: HostRuntime) -> io::Result<()> {
-    let mut input: Vec<u8> = Vec::new(rt.alloc());
-    // one byte past the limit tells that there is more
-    let mut source = rt.stdin().take(INPUT_LIMIT as u64 + 1);
-    let _ = source.read_to_end(&mut input)?;
-    let shown = inspect(rt.alloc(), input.as_slice())?;
-    let mut out = rt.stdout();
-    out.write_all(shown.as_slice())
+    inspect_stream(&mut Kept::new(rt.stdin()), &mut Kept::new(rt.stdout()))
 }

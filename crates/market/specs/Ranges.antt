@@ -10,7 +10,7 @@ use Rattle.market.specs.Bounds.{within, is_class, is_price}
 abbrev pub holds : Range → ℕ → Bool
 holds r p = within r.low r.high p
 
--- while no range is in force every price is within range
+-- without a range every price is inside
 abbrev pub in_range : Option Range → ℕ → Bool
 in_range None p = true
 in_range (Some r) p = holds r p
@@ -51,7 +51,7 @@ value_in (b ∷ bs) class column sale = cond (nat_le sale b.to) (of_band class c
 abbrev pub around : ℕ → ℕ → Range
 around sale v = record { low = max (sale - v) 1; high = sale + v }
 
--- without a last sale there is no range
+-- the range that a last sale gives; none where there was no sale
 abbrev pub range_around : ℕ → Column → ℕ → Option Range
 range_around class column sale = cond (is_class class && is_price sale) (Some (around sale (value_in bands class column sale))) None
 

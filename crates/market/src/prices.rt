@@ -1,4 +1,4 @@
-// The opposite of a side, and which of two prices is better on a side.
+// What lies opposite a side, and which price a side prefers.
 ghost use Rattle.std.specs.Prelude.{◌≡◌};
 ghost use Rattle.market.specs.Sides.{opposite, same_side, better, as_good, precedence};
 

@@ -26,7 +26,7 @@ pub enum Refusal {
     OtherMember = 52,
     // the order has no open shares
     NothingOpen = 53,
-    // a floor price below the best bid or above the best offer
+    // a floor price outside the quote: under the bid or over the offer
     OutsideQuote = 61,
     NotPaused = 71,
 }

@@ -77,7 +77,7 @@ pub struct Range {
 // A line of the tape.
 #[derive(Clone, Copy)]
 pub enum TapeLine {
-    // an execution of the order run, with the range in force, 0 and 0 without one: as it is printed
+    // an execution of the order run, with the two ends of its range as they are printed: both 0 where there is none
     Print {
         order: u32,
         price: u32,

@@ -1,31 +1,12 @@
 -- What a call did, seen from the day that it was put to.
-use Rattle.std.proofs.Common.{◌≡◌, ℕ, Bool, true, false, List, [], ◌∷◌, ◌++◌, length, drop, Some, Result, Ok, sym, refl, ap, subst, arith}
-use Rattle.market.specs.declared.words.Stop.{Stop}
-use Rattle.market.specs.declared.words.TapeLine.{TapeLine}
-use Rattle.replay.specs.Days.{Day, Phase, Loading, Trading, Closed, Rule, Answer}
-use Rattle.replay.specs.Days as days
-use Rattle.replay.specs.Calls.{refusal, checks, step}
+use Rattle.std.proofs.Common.{◌≡◌, ℕ, Bool, true, false, Some, refl, arith}
+use Rattle.replay.specs.Days.{Loading, Trading, Closed}
+use Rattle.replay.specs.Calls.{refusal, checks}
 use Rattle.trading.specs.declared.board.Board.{Board}
 use Rattle.trading.specs.Boards.{day_of}
-use Rattle.trading.specs.Deeds.{Did}
 use Rattle.playback.specs.declared.call.Call.{Call}
 use Rattle.playback.specs.declared.call.Call.TheVariants.{Set, LoadLimit, LoadStop, Open, Enter, Cancel, FloorTrade, Resume, Close}
-use Rattle.playback.specs.declared.reply.Reply.{Reply}
-use Rattle.playback.specs.declared.reply.Reply.TheVariants.{Done}
-use Rattle.playback.specs.declared.reply.CallRefusal.{CallRefusal}
-use Rattle.playback.specs.declared.stage.Stage.{Stage}
-use Rattle.playback.specs.Replies.{answer_of}
-use Rattle.playback.specs.Stages.{call_of, day_in, rule_in, file_in, LeadsOn, Unmoved}
-
-none_left : {A : Type 0} (xs ys : List A) → [] ≡ xs ++ ys → xs ≡ []
-none_left [] ys e = refl
-none_left (x ∷ xs) ys e = absurd (let z : ◌≡◌ {A = ℕ} 0 1 = cc in omega arith)
-
--- a call that writes no lines leaves those that it might have been lent
-pub silent : {gifts : Rule} {room : ℕ} {d : Day} {c : days.Call} {a : Answer} {e : Day} {ss : List Stop} (ls : List TapeLine) → Did gifts room d c a e ss [] [] → Did gifts room d c a e ss ls ls
-silent {gifts} {room} {d} {c} ls x =
-    let none : (step gifts room d c).day.tape ≡ [] = none_left (step gifts room d c).day.tape _ x.lines in
-    record { answer = x.answer; day = x.day; file = x.file; lines = sym (ap (λ t. t ++ drop (length t) ls) none) }
+use Rattle.playback.specs.Stages.{call_of}
 
 -- calls after which a loading day is still one
 abbrev pub loads : Call → Bool
@@ -87,28 +68,3 @@ not_closed room b f (Cancel m n) = refl
 not_closed room b f (FloorTrade p q) = refl
 not_closed room b f Resume = refl
 not_closed room b f Close = refl
-
--- What a call did to a stage in the end, whether it had its reply at once or the stage was moved.
-module _ {R F : Type 0} {g : _} (gifts : R → Rule) (room : F → ℕ) (stops : F → List Stop) where
-  abbrev pub Keeps : Stage R F g → Stage R F g → Type 0
-  Keeps st next = (room (file_in next) ≡ room (file_in st)) × (rule_in next ≡ rule_in st)
-
-  pub record Deed (c : Call) (r : Result Reply CallRefusal) (st next : Stage R F g) (ls ls' : List TapeLine) : Type 0 where
-    pub did : Did (gifts (rule_in st)) (room (file_in st)) (day_in st) (call_of (length ls) c) (answer_of r) (day_in next) (stops (file_in next)) ls ls'
-    pub keeps : Keeps st next
-
-  abbrev pub Moves : Stage R F g → Stage R F g → Type 0
-  Moves st next = (c : Call) (ls : List TapeLine) → LeadsOn c st → Did (gifts (rule_in st)) (room (file_in st)) (day_in st) (call_of (length ls) c) days.Done (day_in next) (stops (file_in next)) ls ls
-
-  -- the same by an equal reply and stage
-  pub deed_by : {c : Call} {r r' : Result Reply CallRefusal} {st next next' : Stage R F g} {ls ls' : List TapeLine} → r' ≡ r → next' ≡ next → Deed c r st next ls ls' → Deed c r' st next' ls ls'
-  deed_by {c} {r} {r'} {st} {next} {next'} {ls} {ls'} p q x = subst (λ a. Deed c a st next' ls ls') (sym p) (subst (λ n. Deed c r st n ls ls') (sym q) x)
-
-  -- a call that led on
-  pub led : {c : Call} {st st' next : Stage R F g} {ls ls' : List TapeLine} → Unmoved c st st' ls ls' → Moves st' next → Keeps st' next → Deed c (Ok Done) st next ls ls'
-  led {c} {st} {st'} {next} {ls} {ls'} u m k =
-      let m' : Moves st next = subst (λ s. Moves s next) u.stage m in
-      record {
-        did = subst (λ l. Did (gifts (rule_in st)) (room (file_in st)) (day_in st) (call_of (length ls) c) days.Done (day_in next) (stops (file_in next)) ls l) (sym u.lines) (m' c ls u.leads);
-        keeps = subst (λ s. Keeps s next) u.stage k;
-      }

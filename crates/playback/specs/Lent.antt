@@ -4,8 +4,8 @@ use Rattle.market.specs.declared.words.TapeLine.{TapeLine}
 use Rattle.replay.specs.Days.{Day, Rule, Call}
 use Rattle.replay.specs.Calls.{handed, step}
 
--- some lines written over others, from the first on
-abbrev pub over : List TapeLine → List TapeLine → List TapeLine
+-- some of a list written over others, from the first on
+abbrev pub over : {A : Type 0} → List A → List A → List A
 over ts ls = ts ++ drop (length ts) ls
 
 -- each call writes those that it hands over, and leaves the others as they were

@@ -1,5 +1,12 @@
+pub mod Alike
+pub mod Fitting
 pub mod Laws
 pub mod Lent
+pub mod Phases
+pub mod Reached
+pub mod ReachedDays
 pub mod Replies
+pub mod Seen
 pub mod Stages
+pub mod Sums
 pub mod Views

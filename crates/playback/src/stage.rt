@@ -1,11 +1,11 @@
-// A day in whichever phase it is.
+// A day in whichever phase it is, as it is kept.
 use stops::stop_file::StopFile;
 use trading::day::{ClosedDay, LoadingDay, TradingDay};
 
-pub mod steps;
+pub(crate) mod steps;
 
 #[derive(Drop)]
-pub enum Stage<R, F: StopFile> {
+pub(crate) enum Stage<R, F: StopFile> {
     Load(LoadingDay<R, F>),
     Trade(TradingDay<R, F>),
     Shut(ClosedDay<R, F>),

@@ -68,7 +68,7 @@ any_among t (o ∷ os) e = go (t o) refl e (any_among t os)
     go false f e ih = inr (ih e)
 
 -- a price at which somebody rests
-on_book : (w : Place) → is_book w ≡ true → w ≡ Book
+pub on_book : (w : Place) → is_book w ≡ true → w ≡ Book
 on_book Nowhere e = absurd (false≢true e)
 on_book Book e = refl
 on_book Line e = absurd (false≢true e)
@@ -187,7 +187,7 @@ module _ (gifts : Rule) (lawful : LawfulRule gifts) where
       some_inj : {x y : Order} → Some x ≡ Some y → x ≡ y
       some_inj e = cc
 
-new_bounds : Bounds new_day
+pub new_bounds : Bounds new_day
 unfolding new_day
 new_bounds = record { orders = tt; last = omega arith; class = (omega arith, omega arith); range = tt }
 

@@ -22,7 +22,7 @@ unfolding admit fresh
 admit_filed s m p q d h = (put StopFile (fresh Stop s m p q d.roll), look_push 1 d.roll (put StopFile (fresh Stop s m p q d.roll)) h.counted (omega arith), refl, refl, refl, refl)
 
 module _ (gifts : Rule) where
-  work_rests_on : (d : Day) → Idle d → work gifts d ≡ d
+  pub work_rests_on : (d : Day) → Idle d → work gifts d ≡ d
   unfolding work
   work_rests_on d (inl e) = paused_still gifts (busy d) d e
   work_rests_on d (inr e) = empty gifts (busy d) d e

@@ -82,24 +82,24 @@ kept_limit os us k f w =
 terms_self : (o : Order) → Terms o o
 terms_self o = record { side = refl; kind = refl; price = refl }
 
-kept_self : (os : List Order) → Kept os os
+pub kept_self : (os : List Order) → Kept os os
 kept_self os n o e = (o, e, terms_self o)
 
-kept_trans : (os us vs : List Order) → Kept os us → Kept us vs → Kept os vs
+pub kept_trans : (os us vs : List Order) → Kept os us → Kept us vs → Kept os vs
 kept_trans os us vs j k n o e =
     let h : (u : Order) × (look n us ≡ Some u) × Terms o u = j n o e in
     let i : (v : Order) × (look n vs ≡ Some v) × Terms h.0 v = k n h.0 h.1 in
     (i.0, i.1, record { side = i.2.side ∙ h.2.side; kind = i.2.kind ∙ h.2.kind; price = i.2.price ∙ h.2.price })
 
-kept_alter : (n : ℕ) (f : Order → Order) (os : List Order) → ((o : Order) → (f o).number ≡ o.number) → ((o : Order) → Terms o (f o)) → Kept os (alter n f os)
+pub kept_alter : (n : ℕ) (f : Order → Order) (os : List Order) → ((o : Order) → (f o).number ≡ o.number) → ((o : Order) → Terms o (f o)) → Kept os (alter n f os)
 kept_alter n f os k t m o e = ⊎_elim
     (λ h. (f o, subst (λ x. look x (alter n f os) ≡ Some (f o)) (sym h) (look_alter n f os k ∙ ap (upon f) (subst (λ x. look x os ≡ Some o) h e)), t o))
     (λ ne. (o, look_past m n f os k ne ∙ e, terms_self o)) (cases_eq m n)
 
-terms_fill : (q : ℕ) (o : Order) → Terms o (fill q o)
+pub terms_fill : (q : ℕ) (o : Order) → Terms o (fill q o)
 terms_fill q o = record { side = refl; kind = refl; price = refl }
 
-kept_deal : (c : Side) (p : ℕ) (os : List Order) (gs : List ℕ) → Kept os (deal c p os gs)
+pub kept_deal : (c : Side) (p : ℕ) (os : List Order) (gs : List ℕ) → Kept os (deal c p os gs)
 unfolding Dealt
 kept_deal c p os gs n o e = go (look n (deal c p os gs)) refl (subst (λ x. Dealt x (look n (deal c p os gs))) e (look_dealt n c p os gs))
   where
@@ -112,7 +112,7 @@ terms_called : (t : Bool) (o : Order) → Terms o (called t o)
 terms_called true o = record { side = refl; kind = refl; price = refl }
 terms_called false o = terms_self o
 
-kept_called : (p : ℕ) (os : List Order) → Kept os (map (λ o. called (is_elected p o) o) os)
+pub kept_called : (p : ℕ) (os : List Order) → Kept os (map (λ o. called (is_elected p o) o) os)
 unfolding look
 kept_called p [] n o e = (o, e, terms_self o)
 kept_called p (x ∷ os) n o e = go (eqb x.number n) (ap (λ m. eqb m n) (called_number (is_elected p x) x)) e (kept_called p os n o)
@@ -125,7 +125,7 @@ kept_called p (x ∷ os) n o e = go (eqb x.number n) (ap (λ m. eqb m n) (called
     go true t e ih = (called (is_elected p x) x, ap (λ b. found b (called (is_elected p x) x) (look n new)) t, subst (λ z. Terms z (called (is_elected p x) x)) (some_inj e) (terms_called (is_elected p x) x))
     go false t e ih = let h : (u : Order) × (look n new ≡ Some u) × Terms o u = ih e in (h.0, ap (λ b. found b (called (is_elected p x) x) (look n new)) t ∙ h.1, h.2)
 
-kept_push : (os : List Order) (x : Order) → Kept os (os ++ (x ∷ []))
+pub kept_push : (os : List Order) (x : Order) → Kept os (os ++ (x ∷ []))
 unfolding look
 kept_push [] x n o e = absurd (let z : ◌≡◌ {A = ℕ} 0 1 = cc in omega arith)
 kept_push (y ∷ os) x n o e = go (eqb y.number n) e (kept_push os x n o)
@@ -143,7 +143,7 @@ shown (Some g) n p q e =
     let hi : ℕ = g.high in
     let h : (leb lo p ≡ true) × (leb p hi ≡ true) = and_parts (leb lo p) (leb p hi) e in inr (leb-true lo p h.0, leb-true p hi h.1)
 
-all_filled_by : (Q : Fill → Type 0) (q n p : ℕ) (g : Option Range) (fs : List Fill) → (0 < q → Q (record { order = n; price = p; shares = q; low = low_of g; high = high_of g })) → AllByRecursion Q fs → AllByRecursion Q (filled_by q n p g fs)
+pub all_filled_by : (Q : Fill → Type 0) (q n p : ℕ) (g : Option Range) (fs : List Fill) → (0 < q → Q (record { order = n; price = p; shares = q; low = low_of g; high = high_of g })) → AllByRecursion Q fs → AllByRecursion Q (filled_by q n p g fs)
 all_filled_by Q zero n p g fs h a = a
 all_filled_by Q (suc q) n p g fs h a = (h (omega arith), a)
 
@@ -209,13 +209,13 @@ push_sums : (w : Place) (k : Kind) (s : Side) (j p q : ℕ) (os : List Order) (m
 unfolding fresh
 push_sums w k s j p q os m = total_push (filled_of m) os (put w (fresh k s j p q os)) ∙ omega (arith, only_zero (eqb (suc (length os)) m))
 
-cancel_number : (o : Order) → (cancel o).number ≡ o.number
+pub cancel_number : (o : Order) → (cancel o).number ≡ o.number
 cancel_number o = refl
 
-cancel_terms : (o : Order) → Terms o (cancel o)
+pub cancel_terms : (o : Order) → Terms o (cancel o)
 cancel_terms o = record { side = refl; kind = refl; price = refl }
 
-put_terms : (o : Order) → Terms o (put Book o)
+pub put_terms : (o : Order) → Terms o (put Book o)
 put_terms o = record { side = refl; kind = refl; price = refl }
 
 waiting_same : (j : ℕ) (o : Order) → filled_of j (put Line o) ≡ filled_of j o
@@ -321,7 +321,7 @@ shares_by zero n p g fs = omega arith
 shares_by (suc q) n p g fs = refl
 
 -- what the resting orders give is what stands ahead, and the gifts
-taken_sum : (c : Side) (p : ℕ) (g : Option Range) (os : List Order) (gs : List ℕ) → AllZip Gift gs (row c p os) → total shares (taken c p g os gs) ≡ ahead c p os + total (λ n. n) gs
+pub taken_sum : (c : Side) (p : ℕ) (g : Option Range) (os : List Order) (gs : List ℕ) → AllZip Gift gs (row c p os) → total shares (taken c p g os gs) ≡ ahead c p os + total (λ n. n) gs
 unfolding taken row ahead
 taken_sum c p g [] [] z = refl
 taken_sum c p g [] (x ∷ gs) z = absurd z

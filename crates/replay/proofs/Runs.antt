@@ -226,7 +226,7 @@ module _ (gifts : Rule) (lawful : LawfulRule gifts) where
   abbrev pub Clear : Side → ℕ → List Order → Type 0
   Clear c f os = AllByRecursion (λ o. rests_on c o ≡ true → better c o.price f ≡ false) os
 
-  rests_on_fill : (c : Side) (q : ℕ) (o : Order) → rests_on c (fill q o) ≡ true → rests_on c o ≡ true
+  pub rests_on_fill : (c : Side) (q : ℕ) (o : Order) → rests_on c (fill q o) ≡ true → rests_on c o ≡ true
   rests_on_fill c q o e = go (eqb (o.«open» - q) 0) e
     where
       go : (b : Bool) → (is_book (cond b Nowhere o.place) && same_side o.side c) ≡ true → (is_book o.place && same_side o.side c) ≡ true
@@ -432,7 +432,7 @@ module _ (gifts : Rule) (lawful : LawfulRule gifts) where
           let y : Mid x.0 d × (0 < left x.0.number d.roll) = starts n x.0 d s x.1 x.2 in
           subst (λ y. Sound (run_of gifts n y d)) (sym x.1) (run_sound x.0 d y.0 y.1)
 
-  turns_sound : (k : ℕ) (d : Day) → Sound d → Sound (turns gifts k d)
+  pub turns_sound : (k : ℕ) (d : Day) → Sound d → Sound (turns gifts k d)
   unfolding turns
   turns_sound zero d s = s
   turns_sound (suc k) d s = turns_sound k (turn gifts d) (turn_sound d s)

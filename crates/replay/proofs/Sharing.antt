@@ -7,7 +7,7 @@ use Rattle.sharing.specs.Shares.{total as sum}
 use Rattle.replay.specs.Lists.{total}
 use Rattle.replay.specs.Days.{Rule}
 
--- lawful shares: a multiple of 100 from 100 to 1,000,000
+-- lawful shares: whole lots, 100 at least and 1,000,000 at most
 abbrev pub LawfulShares : ℕ → Type 0
 LawfulShares n = (n % 100 ≡ 0) × (100 ≤ n) × (n ≤ 1000000)
 

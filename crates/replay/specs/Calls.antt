@@ -73,7 +73,7 @@ file_full room k d = check (is_stop k && nat_le room (filed d.roll)) stop_file_f
 abbrev pub resting_at : (ℕ → Bool) → Side → List Order → Bool
 resting_at t c os = any (λ o. rests_on c o && t o.price) os
 
--- below the best bid or above the best offer
+-- outside the quote: under the bid or over the offer
 abbrev pub outside : ℕ → List Order → Bool
 outside p os = resting_at (λ b. ltb p b) Buy os || resting_at (λ b. ltb b p) Sell os
 

@@ -101,6 +101,6 @@ pub record FiledAtOnce (gifts : Rule) (room : ℕ) (d : Day) : Type 0 where
   pub loaded : (s : Side) (m p q : ℕ) → refusal (checks room d (LoadStop s m p q)) ≡ None → IsFiled (suc (length d.roll)) s p (step gifts room d (LoadStop s m p q)).day
   pub entered : (s : Side) (m p q f : ℕ) → refusal (checks room d (Enter Stop s m p q f)) ≡ None → IsFiled (suc (length d.roll)) s p (step gifts room d (Enter Stop s m p q f)).day
 
--- A stop is filed from its own call on.
+-- After its own call a stop is in the file.
 abbrev pub StopsAreFiled : Type 0
 StopsAreFiled = (gifts : Rule) → LawfulRule gifts → (room : ℕ) (cs : List Call) → FiledAtOnce gifts room (after_calls gifts room new_day cs)

@@ -18,4 +18,13 @@ pub mod TwoRules
 pub mod Bounds
 pub mod History
 pub mod RollHolds
+pub mod TapeGrows
+pub mod RefusalsGiven
+pub mod Placed
+pub mod Accounts
 pub mod Examples
+pub mod Starts
+pub mod OnlyFiled
+pub mod Matches
+pub mod Pauses
+pub mod Givers

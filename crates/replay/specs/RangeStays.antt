@@ -1,5 +1,5 @@
--- A range in force stays through a call; where none is in force, the first run that prints sets it. Assumes nothing.
-use Rattle.std.specs.Prelude.{◌≡◌, ℕ, ◌⊎◌, List, ◌∷◌, ◌++◌, Some, None, Option}
+-- A range in force stays through a call, and every print lies within it; where none is in force, the first run that prints sets it. Assumes nothing.
+use Rattle.std.specs.Prelude.{◌≡◌, ℕ, ◌≤◌, ◌⊎◌, List, ◌∷◌, ◌++◌, Some, None, Option, ◌≢◌}
 use Rattle.market.specs.declared.words.Column.{Column}
 use Rattle.market.specs.declared.words.Range.{Range}
 use Rattle.market.specs.declared.words.TapeLine.{TapeLine}
@@ -28,12 +28,26 @@ Shows lo hi (Cancel n q) = Unit {0}
 Shows lo hi (Elect n) = Unit {0}
 Shows lo hi (Floor p q) = Unit {0}
 
--- A range in force then stays through the call, and every print of the call shows it.
+-- a print has its price within these ends
+abbrev pub PricedIn : ℕ → ℕ → TapeLine → Type 0
+PricedIn lo hi (Print n p q l h) = (lo ≤ p) × (p ≤ hi)
+PricedIn lo hi (Cancel n q) = Unit {0}
+PricedIn lo hi (Elect n) = Unit {0}
+PricedIn lo hi (Floor p q) = Unit {0}
+
+-- The lines of a call that began to run orders with range g in force, and the range after it: it stays, every print shows it and lies within it.
+-- It starts at 1 or higher, so that no print shows 0, which would say that none is in force.
+pub record Stays (g : Range) (ls : List TapeLine) (after : Option Range) : Type 0 where
+  pub low : 1 ≤ g.low
+  pub stays : after ≡ Some g
+  pub shown : AllByRecursion (Shows g.low g.high) ls
+  pub within : AllByRecursion (PricedIn g.low g.high) ls
+
+-- A range in force when a performed call begins to run orders is in force after it, and every print of the call shows it and lies within it.
 abbrev pub RangeStays : Type 0
 RangeStays = (gifts : Rule) → LawfulRule gifts → (room : ℕ) (cs : List Call) (c : Call) (g : Range)
     → refusal (checks room (after_calls gifts room new_day cs) c) ≡ None → range_for (after_calls gifts room new_day cs) c ≡ Some g
-    → ((step gifts room (after_calls gifts room new_day cs) c).day.range ≡ Some g)
-    × AllByRecursion (Shows g.low g.high) (handed (after_calls gifts room new_day cs) (step gifts room (after_calls gifts room new_day cs) c).day)
+    → Stays g (handed (after_calls gifts room new_day cs) (step gifts room (after_calls gifts room new_day cs) c).day) (step gifts room (after_calls gifts room new_day cs) c).day.range
 
 -- Where none is in force -----------------------------------------------------------------------------------------------
 abbrev pub NoPrint : TapeLine → Type 0
@@ -49,8 +63,16 @@ Rangeless n (Cancel m q) = ⊥
 Rangeless n (Elect m) = ⊥
 Rangeless n (Floor p q) = ⊥
 
+-- a print is of another order than n
+abbrev pub OfOther : ℕ → TapeLine → Type 0
+OfOther n (Print m p q l h) = m ≢ n
+OfOther n (Cancel m q) = Unit {0}
+OfOther n (Elect m) = Unit {0}
+OfOther n (Floor p q) = Unit {0}
+
 -- The lines of a call on a day of a class and column, and the range after it: the prints of the first run that prints show 0 and 0, and
--- from then on the range round the last of them is in force, and every later print shows it.
+-- from then on the range round the last of them is in force, and every later print is of another order, shows it and lies within it.
+-- So the prints of that run are all prints of its order in the call, and none of them has a range.
 pub record Begins (class : ℕ) (column : Column) (ls : List TapeLine) (after : Option Range) : Type 0 where
   pub before : List TapeLine
   pub runner : ℕ
@@ -63,7 +85,10 @@ pub record Begins (class : ℕ) (column : Column) (ls : List TapeLine) (after : 
   pub silent : AllByRecursion NoPrint before
   pub first : AllByRecursion (Rangeless runner) earlier
   pub around : range_around class column price ≡ Some range
+  pub low : 1 ≤ range.low
+  pub others : AllByRecursion (OfOther runner) later
   pub shown : AllByRecursion (Shows range.low range.high) later
+  pub within : AllByRecursion (PricedIn range.low range.high) later
   pub stays : after ≡ Some range
 
 -- A performed call that begins to run orders with no range in force prints nothing and leaves none, or its first run that prints sets it.

@@ -79,7 +79,7 @@ abbrev pub elect_at : Option ℕ → Day → Day
 elect_at None d = d
 elect_at (Some p) d = elect p d
 
--- the range is set after the run of the first order that prints while none is in force; else it stays
+-- where none is in force, the first run that prints sets the range once it is over; else it stays
 abbrev pub centre_if : Option Range → Option ℕ → Day → Day
 centre_if None (Some p) d = centre d
 centre_if None None d = d

@@ -12,6 +12,6 @@ stop_of o = record { number = o.number; side = o.side; price = o.price; shares =
 abbrev pub file_of : List Order → List Stop
 file_of os = map stop_of (those (λ o. is_filed o.place) os)
 
--- a price elects a buy stop priced at it or lower and a sell stop priced at it or higher
+-- a trade at p elects the buy stops up to p, and the sell stops from p upwards
 abbrev pub elects_stop : ℕ → Stop → Bool
 elects_stop p t = as_good t.side p t.price

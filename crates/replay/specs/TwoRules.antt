@@ -2,7 +2,7 @@
 use Rattle.sharing.specs.Shares.{LawfulRule}
 use Rattle.sharing.specs.Turns.{by_time, by_rotation}
 
--- What every rule owes holds of both, also that for any other row or quantity every gift is 0.
+-- What every rule owes holds of both, also that whatever cannot be shared out gets no gifts.
 pub record BothRules : Type 0 where
   pub time : LawfulRule by_time
   pub rotation : LawfulRule by_rotation

@@ -2,16 +2,25 @@
 // every lawful share-out rule, every capacity of the stop file and every list of calls: without its proof the crate is refused.
 #![tactic(auto)]
 
+ghost use Rattle.replay.specs.Accounts.{Accounts};
 ghost use Rattle.replay.specs.BookInOrder.{BookInOrder};
 ghost use Rattle.replay.specs.Bounds.{NumbersInBounds};
 ghost use Rattle.replay.specs.Elections.{ElectedByFirst, StopsAreFiled};
 ghost use Rattle.replay.specs.Examples.{Examples};
+ghost use Rattle.replay.specs.Givers.{BookGives};
 ghost use Rattle.replay.specs.History.{HistoryUnread};
 ghost use Rattle.replay.specs.Lines.{NeverShort, TapeSuffices, WorkedOff};
+ghost use Rattle.replay.specs.Placed.{OpenHasPlace};
+ghost use Rattle.replay.specs.Matches.{PrintsMatch};
+ghost use Rattle.replay.specs.OnlyFiled.{ElectedOnce, OnlyFiledElected};
+ghost use Rattle.replay.specs.Pauses.{PauseStays, RunsPause};
 ghost use Rattle.replay.specs.RangeStays.{RangeBegins, RangeStays};
+ghost use Rattle.replay.specs.RefusalsGiven.{RefusalsGiven};
 ghost use Rattle.replay.specs.RollHolds.{RollHolds};
 ghost use Rattle.replay.specs.SharesAddUp.{SharesAddUp};
+ghost use Rattle.replay.specs.Starts.{RunsFollow};
 ghost use Rattle.replay.specs.StopsUnseen.{StopsUnseen};
+ghost use Rattle.replay.specs.TapeGrows.{TapeGrows};
 ghost use Rattle.replay.specs.TwoRules.{BothRules};
 
 // Days worked out by hand come out as they should.
@@ -34,7 +43,7 @@ pub fn elected_by_the_first()
     ensures { ElectedByFirst }
 {}
 
-// A stop is filed from its own call on.
+// After its own call a stop is in the file.
 pub fn filed_at_once()
     ensures { StopsAreFiled }
 {}
@@ -59,12 +68,12 @@ pub fn never_short_of_lines()
     ensures { NeverShort }
 {}
 
-// A range in force stays through a call, and its prints show it.
+// A range in force stays through a call, and its prints show it and lie within it.
 pub fn range_stays()
     ensures { RangeStays }
 {}
 
-// Where no range is in force, the first run that prints shows 0 and 0, and the range then stands round its last print.
+// Where no range is in force, the first run that prints shows 0 and 0; then the range stands round its last print, for all others.
 pub fn range_begins()
     ensures { RangeBegins }
 {}
@@ -87,4 +96,59 @@ pub fn history_is_not_read()
 // Prices, members, class, last sale and range stay within what the market takes.
 pub fn numbers_in_bounds()
     ensures { NumbersInBounds }
+{}
+
+// What a call hands over follows what the tape had.
+pub fn tape_grows()
+    ensures { TapeGrows }
+{}
+
+// 43, 46 and 32 are given for their own causes alone; with room for 512 stops and 2,049 free lines there is no 46 and no 44.
+pub fn refusals_have_causes()
+    ensures { RefusalsGiven }
+{}
+
+// Open shares have a place: on the book, in line, or in the stop file.
+pub fn open_has_place()
+    ensures { OpenHasPlace }
+{}
+
+// Every order has whole lots: accepted, filled, cancelled and open.
+pub fn orders_have_whole_lots()
+    ensures { Accounts }
+{}
+
+// A performed call is its own start, and then the line worked off.
+pub fn runs_follow()
+    ensures { RunsFollow }
+{}
+
+// An E line is that of a stop which was in the file before the call, and which an earlier line of the call reached.
+pub fn only_filed_are_elected()
+    ensures { OnlyFiledElected }
+{}
+
+// No order is elected twice in a day.
+pub fn elected_once()
+    ensures { ElectedOnce }
+{}
+
+// What a P line gives its order, limit orders of the other side give together.
+pub fn prints_match()
+    ensures { PrintsMatch }
+{}
+
+// A run pauses trading exactly when shares of its order are left with an order of the other side within its limit; then the call is over.
+pub fn runs_pause_trading()
+    ensures { RunsPause }
+{}
+
+// A pause stays until a performed floor trade or Resume ends it, and nobody runs in it.
+pub fn pause_stays()
+    ensures { PauseStays }
+{}
+
+// Who gives to a run rested on the other side of the book when the run began.
+pub fn book_gives()
+    ensures { BookGives }
 {}

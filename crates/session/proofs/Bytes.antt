@@ -1,14 +1,12 @@
--- Bytes of printed lines, list after list.
-use Rattle.std.proofs.Common.{◌≡◌, ℕ, List, [], ◌∷◌, ◌++◌, refl, ap, sym, ◌∙◌, append_assoc}
+-- Printed lines that were put one after the other.
+use Rattle.std.proofs.Common.{List, ◌++◌, sym, ap, ◌∙◌, subst}
+use Rattle.streams.specs.Sinks.{SinkState, Took}
+use Rattle.streams.proofs.Taking.{took_more}
 use Rattle.text.specs.declared.printed.Printed.{Printed}
-use Rattle.text.specs.Printed.{printed_bytes}
-use Rattle.session.specs.Transcripts.{bytes_of}
+use Rattle.text.specs.Printed.{bytes_of}
+use Rattle.text.proofs.Printing.{bytes_append}
 
-pub bytes_append : (ps qs : List Printed) → bytes_of (ps ++ qs) ≡ bytes_of ps ++ bytes_of qs
-bytes_append [] qs = refl
-bytes_append (p ∷ ps) qs = ap (λ bs. printed_bytes p ++ bs) (bytes_append ps qs) ∙ sym (append_assoc (printed_bytes p) (bytes_of ps) (bytes_of qs))
-
-pub three : (o : List ℕ) {o₁ o₂ o₃ : List ℕ} (xs ys zs : List Printed) → o₁ ≡ o ++ bytes_of xs → o₂ ≡ o₁ ++ bytes_of ys → o₃ ≡ o₂ ++ bytes_of zs → o₃ ≡ o ++ bytes_of (xs ++ ys ++ zs)
-three o xs ys zs a b c =
-    c ∙ ap (λ l. l ++ bytes_of zs) (b ∙ ap (λ l. l ++ bytes_of ys) a ∙ append_assoc o (bytes_of xs) (bytes_of ys) ∙ ap (λ l. o ++ l) (sym (bytes_append xs ys)))
-    ∙ append_assoc o (bytes_of (xs ++ ys)) (bytes_of zs) ∙ ap (λ l. o ++ l) (sym (bytes_append (xs ++ ys) zs))
+pub three : {a b c d : SinkState} (xs ys zs : List Printed) → Took a b (bytes_of xs) → Took b c (bytes_of ys) → Took c d (bytes_of zs) → Took a d (bytes_of (xs ++ ys ++ zs))
+three {a} {d = d} xs ys zs p q r =
+    subst (Took a d) (sym (bytes_append (xs ++ ys) zs ∙ ap (λ bs. bs ++ bytes_of zs) (bytes_append xs ys)))
+    (took_more (bytes_of xs ++ bytes_of ys) (bytes_of zs) (took_more (bytes_of xs) (bytes_of ys) p q) r)

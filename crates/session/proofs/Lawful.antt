@@ -1,30 +1,37 @@
 -- The laws of a day hold of every text.
 use Rattle.std.proofs.Common.{◌≡◌, ℕ, suc, ◌+◌, ◌≤◌, Bool, true, false, cond, not, ◌&&◌, nat_lt, List, [], ◌∷◌, ◌++◌, length, map, take, ⊎_elim, Result, Ok, Err, sym, refl, ap, ◌∙◌, subst, append_assoc, arith}
 use Rattle.std.proofs.lemmas.List.{append-nil}
+use Rattle.std.proofs.lemmas.List.Elements.{filter_map-append}
 use Rattle.std.proofs.lemmas.Bool.Decides.{nat_tests}
 use Rattle.std.specs.List.{AllZip}
 use Rattle.market.specs.declared.words.TapeLine.{TapeLine}
 use Rattle.sharing.specs.Shares.{LawfulRule}
+use Rattle.text.specs.Inspection.{lines_of}
 use Rattle.text.specs.declared.fault.LineFault.{LineFault}
 use Rattle.text.specs.declared.printed.Printed.{Printed}
 use Rattle.text.specs.declared.printed.Printed.TheVariants.{Accepted, Tape, Refused}
 use Rattle.text.specs.declared.printed.Printed.TheVariants as shown
-use Rattle.replay.specs.Days.{Day, Phase, Closed, new_day, Rule, Outcome, Answer}
+use Rattle.replay.specs.Days.{Day, Phase, Loading, Closed, new_day, Rule, Outcome, Answer}
 use Rattle.replay.specs.Days as days
 use Rattle.replay.specs.Calls.{is_phase, handed, step, after_calls}
 use Rattle.replay.specs.Questions.{Totals, totals}
 use Rattle.replay.specs.Lists.{total}
 use Rattle.replay.specs.SharesAddUp.{print_of}
-use Rattle.replay.specs.History.{Bare}
 use Rattle.replay.specs.StopsUnseen.{SameLine, Pair, same, loads, enters, Pairs, SameSeen, AllSeen}
-use Rattle.replay.proofs.History.{step_bare}
 use Rattle.playback.specs.declared.call.Call.{Call}
 use Rattle.playback.specs.Stages.{call_of}
 use Rattle.playback.specs.Laws.{ListLaws}
 use Rattle.playback.proofs.Lawful.{list_laws}
 use Rattle.session.specs.Hearing.{heard, calls_among}
 use Rattle.session.specs.Transcripts.{spoken, totals_line, closing, said, said_of, too_long, printed, transcript}
-use Rattle.session.specs.Laws.{calls_of, last_day, with_tape, tape_in, Alike, SamePrinted, equal, on_tape, totalled, TextLaws}
+use Rattle.session.specs.Above.{tape_line, tape_in, Stands}
+use Rattle.session.specs.Refusals.{refusals_in}
+use Rattle.session.specs.Laws.{calls_of, last_day, brought, Alike, SamePrinted, equal, on_tape, totalled, TextLaws}
+use Rattle.session.proofs.Said.{tape_said, tape_after}
+use Rattle.session.proofs.Along.{Along, along_at}
+use Rattle.session.proofs.Numbered.{all_said}
+use Rattle.session.proofs.Standing.{stands_all}
+use Rattle.session.proofs.Refusing.{refused_printed}
 use Rattle.session.proofs.Phases.{behind, call_phase}
 
 -- a text that is not too long is played
@@ -35,47 +42,6 @@ played gifts room free text h = ap (λ b. cond b (too_long ∷ []) (printed gift
     short = grind (arith, nat_tests)
 
 -- the tape ---------------------------------------------------------------------------------------------------------------
-tape_append : (ps qs : List Printed) → tape_in (ps ++ qs) ≡ tape_in ps ++ tape_in qs
-tape_append [] qs = refl
-tape_append (p ∷ ps) qs = go p (tape_append ps qs)
-  where
-    go : (p : Printed) → tape_in (ps ++ qs) ≡ tape_in ps ++ tape_in qs → with_tape p (tape_in (ps ++ qs)) ≡ with_tape p (tape_in ps) ++ tape_in qs
-    go (Accepted n) e = e
-    go (Tape l) e = ap (λ ls. l ∷ ls) e
-    go (Refused n layer k field) e = e
-    go (shown.Totals a p c o) e = e
-
-tape_spoken : (n : ℕ) (a : Answer) → tape_in (spoken n a) ≡ []
-tape_spoken n days.Done = refl
-tape_spoken n (days.Number k) = refl
-tape_spoken n (days.Lines k) = refl
-tape_spoken n (days.Entered k j) = refl
-tape_spoken n (days.Refused k) = refl
-
-tape_lines : (ls : List TapeLine) → tape_in (map Tape ls) ≡ ls
-tape_lines [] = refl
-tape_lines (l ∷ ls) = ap (λ ks. l ∷ ks) (tape_lines ls)
-
-tape_closing : (f : Phase) (e : Day) → tape_in (closing f e) ≡ []
-tape_closing f e = go (is_phase Closed e.phase && not (is_phase Closed f))
-  where
-    go : (b : Bool) → tape_in (cond b (totals_line (totals e) ∷ []) []) ≡ []
-    go true = refl
-    go false = refl
-
-tape_said : (n : ℕ) (d : Day) (r : Outcome) → tape_in (said n d r) ≡ handed d r.day
-tape_said n d r =
-    tape_append (spoken n r.answer ++ map Tape (handed d r.day)) (closing d.phase r.day)
-    ∙ ap (λ ls. tape_in (spoken n r.answer ++ map Tape (handed d r.day)) ++ ls) (tape_closing d.phase r.day)
-    ∙ append-nil _
-    ∙ tape_append (spoken n r.answer) (map Tape (handed d r.day))
-    ∙ ap (λ ls. ls ++ tape_in (map Tape (handed d r.day))) (tape_spoken n r.answer)
-    ∙ tape_lines (handed d r.day)
-
--- the tape after a call
-tape_after : (gifts : Rule) (room : ℕ) (d : Day) (c : days.Call) → (step gifts room d c).day.tape ≡ d.tape ++ handed d (step gifts room d c).day
-tape_after gifts room d c = let s : Bare gifts room d c = step_bare gifts room d c in s.tape ∙ ap (λ ls. d.tape ++ ls) (sym s.lines)
-
 tape_printed : (gifts : Rule) (room free n : ℕ) (d : Day) (xs : List (Result Call LineFault))
     → (after_calls gifts room d (map (call_of free) (calls_among xs))).tape ≡ d.tape ++ tape_in (printed gifts room free n d xs)
 unfolding printed after_calls
@@ -87,7 +53,7 @@ tape_printed gifts room free n d (Ok c ∷ xs) =
     ∙ ap (λ ls. ls ++ tape_in later) (tape_after gifts room d (call_of free c))
     ∙ append_assoc d.tape (handed d r.day) (tape_in later)
     ∙ ap (λ ls. d.tape ++ (ls ++ tape_in later)) (sym (tape_said n d r))
-    ∙ ap (λ ls. d.tape ++ ls) (sym (tape_append (said n d r) later))
+    ∙ ap (λ ls. d.tape ++ ls) (sym (filter_map-append tape_line (said n d r) later))
 tape_printed gifts room free n d (Err f ∷ xs) = tape_printed gifts room free (n + 1) d xs
 
 taped : (gifts : Rule) (room free : ℕ) (text : List ℕ) → (last_day gifts room free text).tape ≡ tape_in (printed gifts room free 1 new_day (heard text))
@@ -191,9 +157,13 @@ text_laws gifts h room free text =
     record {
       calls = laws;
       tape = λ short. ap tape_in (played gifts room free text short) ∙ sym (taped gifts room free text);
-      invisible = λ N text' short short' alike x y.
+      invisible = λ text' N short short' alike x y.
           subst (λ ps. AllZip (SamePrinted N) ps (transcript gifts room free text')) (sym (played gifts room free text short))
           (subst (λ ps. AllZip (SamePrinted N) (printed gifts room free 1 new_day (heard text)) ps) (sym (played gifts room free text' short'))
           (zipped gifts N room free 1 new_day new_day (heard text) (heard text') refl (none_yet N) (λ k. (laws.add_up k).0.printed) (λ k. ((list_laws gifts h room (calls_of free text')).add_up k).0.printed) alike
           (laws.invisible N (calls_of free text') (pairs_of gifts N room free new_day new_day (heard text) (heard text') alike) x y)));
+      stands = λ above below p short e.
+          along_at (Stands room free (brought gifts room free text)) [] above below p
+          (subst (λ ps. Along (Stands room free (brought gifts room free text)) [] ps) (sym (played gifts room free text short) ∙ e) (stands_all gifts h room free (heard text) (all_said Loading (lines_of text))));
+      refused = λ short. ap refusals_in (played gifts room free text short) ∙ refused_printed gifts room free 1 new_day (heard text);
     }

@@ -1,5 +1,12 @@
+pub mod Bytes
 pub mod Turning
 pub mod Phases
-pub mod Bytes
 pub mod Playing
+pub mod Along
+pub mod Said
+pub mod Counting
+pub mod Numbered
+pub mod Standing
+pub mod Refusing
 pub mod Lawful
+pub mod Limited

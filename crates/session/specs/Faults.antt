@@ -18,14 +18,20 @@ cause_of calls.OtherPhase = OtherPhase
 cause_of (calls.Market r) = Market r
 
 abbrev pub layer_in : Cause → Layer
-layer_in (Text r) = layers.Text
+layer_in (Text f) = layers.Text
 layer_in OtherPhase = layers.Session
 layer_in (Market r) = layers.Market
 
 abbrev pub number_in : Cause → ℕ
-number_in (Text r) = code_of r
+number_in (Text f) = code_of f.cause
 number_in OtherPhase = other_phase
 number_in (Market r) = number_of r
 
+-- the place of the field at fault: only a text has fields
+abbrev pub field_in : Cause → ℕ
+field_in (Text f) = f.field
+field_in OtherPhase = 0
+field_in (Market r) = 0
+
 abbrev pub refused : Fault → Printed
-refused f = Refused f.line (layer_in f.cause) (number_in f.cause) f.field
+refused f = Refused f.line (layer_in f.cause) (number_in f.cause) (field_in f.cause)

@@ -11,6 +11,7 @@ use Rattle.text.specs.Letters.{column_letter}
 use Rattle.text.specs.Reading.{record_in}
 use Rattle.text.specs.Inspection.{lines_of}
 use Rattle.text.specs.declared.fault.LineFault.{LineFault}
+use Rattle.text.specs.declared.read.Fault.{Fault}
 use Rattle.text.specs.declared.record.Record.{Record}
 use Rattle.text.specs.declared.record.Record.TheVariants as records
 
@@ -63,6 +64,11 @@ phase_after f (records.FloorTrade p q) = f
 phase_after f records.Resume = f
 phase_after f records.Open = behind_open f
 phase_after f records.Close = behind_close f
+
+-- a line's fault as its reader gives it, who knows where the next line begins
+abbrev pub ending_at : ℕ → Result Record LineFault → Result Record Fault
+ending_at n (Ok r) = Ok r
+ending_at n (Err f) = Err (record { cause = f.cause; field = f.field; next = n })
 
 -- what a line says in a phase, and the phase behind it
 abbrev pub hear : Phase → Result Record LineFault → Result Call LineFault

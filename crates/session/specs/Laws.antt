@@ -1,18 +1,21 @@
 -- What holds of every text, whatever the rule and the stop file. Assumes nothing.
-use Rattle.std.specs.Prelude.{◌≡◌, ℕ, ◌≤◌, Bool, List, [], ◌∷◌, length, map, Ok, Err, Result}
+use Rattle.std.specs.Prelude.{◌≡◌, ℕ, ◌≤◌, Bool, List, [], ◌∷◌, ◌++◌, length, map, Ok, Err, Result}
 use Rattle.std.specs.List.{AllZip}
 use Rattle.market.specs.declared.words.TapeLine.{TapeLine}
 use Rattle.text.specs.declared.fault.LineFault.{LineFault}
 use Rattle.text.specs.declared.printed.Printed.{Printed}
-use Rattle.text.specs.declared.printed.Printed.TheVariants.{Accepted, Tape, Refused, Totals}
+use Rattle.text.specs.declared.printed.Printed.TheVariants.{Tape, Totals}
 use Rattle.replay.specs.Days.{Day, new_day, Rule}
 use Rattle.replay.specs.Days as days
 use Rattle.replay.specs.Calls.{after_calls}
+use Rattle.replay.specs.SharesAddUp.{brought_in}
 use Rattle.replay.specs.StopsUnseen.{SameLine, Pair, Unelected}
 use Rattle.playback.specs.declared.call.Call.{Call}
 use Rattle.playback.specs.Stages.{call_of}
 use Rattle.playback.specs.Laws.{ListLaws}
 use Rattle.session.specs.Hearing.{heard, calls_among}
+use Rattle.session.specs.Above.{tape_in, Stands}
+use Rattle.session.specs.Refusals.{refusals_in, refusals_from}
 use Rattle.session.specs.Transcripts.{day_behind, transcript}
 
 -- the calls that a text holds, performed or refused, where each is lent so many lines
@@ -23,16 +26,9 @@ calls_of free text = map (call_of free) (calls_among (heard text))
 abbrev pub last_day : Rule → ℕ → ℕ → List ℕ → Day
 last_day gifts room free text = after_calls gifts room new_day (calls_of free text)
 
--- the lines of the tape among what is printed
-abbrev pub with_tape : Printed → List TapeLine → List TapeLine
-with_tape (Accepted n) ls = ls
-with_tape (Tape l) ls = l ∷ ls
-with_tape (Refused n layer k field) ls = ls
-with_tape (Totals a p c o) ls = ls
-
-abbrev pub tape_in : List Printed → List TapeLine
-tape_in [] = []
-tape_in (p ∷ ps) = with_tape p (tape_in ps)
+-- the shares that came in by the calls that were performed
+abbrev pub brought : Rule → ℕ → ℕ → List ℕ → ℕ
+brought gifts room free text = brought_in gifts room new_day (calls_of free text)
 
 -- Two texts are alike if their lines, one by one, hold the same call or the same fault, or bring in the same stop but for price and shares.
 -- N says which stops differ: take it for exactly their numbers. Each is accepted on both days.
@@ -54,13 +50,23 @@ pub data SamePrinted (N : ℕ → Bool) : Printed → Printed → Type 0 where
   on_tape : {l m : TapeLine} → SameLine N l m → SamePrinted N (Tape l) (Tape m)
   totalled : {a p c o a' c' o' : ℕ} → SamePrinted N (Totals a p c o) (Totals a' p c' o')
 
+-- Unelected stops are invisible: of two texts that are alike but for price and shares of stops that both days accept and neither elects, the same is
+-- printed, but the shares of those stops' X lines and of the totals those that are accepted, cancelled and open.
+abbrev pub Unseen : Rule → ℕ → ℕ → ℕ → List ℕ → List ℕ → Type 0
+Unseen gifts room room' free text text' =
+    (N : ℕ → Bool) → length text ≤ 32768 → length text' ≤ 32768 → Alike gifts N room free new_day new_day (heard text) (heard text')
+    → Unelected N (last_day gifts room free text) → Unelected N (last_day gifts room' free text') → AllZip (SamePrinted N) (transcript gifts room free text) (transcript gifts room' free text')
+
 pub record TextLaws (gifts : Rule) (room free : ℕ) (text : List ℕ) : Type 0 where
   -- The laws of a list hold of the calls of the text: unelected stops are invisible; elections, limits, range and waiting are in order; shares add up.
   -- (Those of a text that is too long are never performed.)
   pub calls : ListLaws gifts room (calls_of free text)
   -- The tape that these laws speak of is the one that is printed.
   pub tape : length text ≤ 32768 → tape_in (transcript gifts room free text) ≡ (last_day gifts room free text).tape
-  -- Unelected stops are invisible in what is printed: of any other text that is alike but for price and shares of stops that both days accept and neither
-  -- elects, the same is printed, but the shares of those stops' X lines and of the totals those that are accepted, cancelled and open.
-  pub invisible : (N : ℕ → Bool) (text' : List ℕ) → length text ≤ 32768 → length text' ≤ 32768 → Alike gifts N room free new_day new_day (heard text) (heard text')
-      → Unelected N (last_day gifts room free text) → Unelected N (last_day gifts room free text') → AllZip (SamePrinted N) (transcript gifts room free text) (transcript gifts room free text')
+  -- Unelected stops are invisible in what is printed, whatever the other text.
+  pub invisible : (text' : List ℕ) → Unseen gifts room room free text text'
+  -- Each printed line, against those above it: A numbers run 1, 2, 3 ..; a `!` line refuses a later line than those above, by a number of its layer; a Z line
+  -- adds up what is printed above it, and only `!` lines stand below it.
+  pub stands : (above below : List Printed) (p : Printed) → length text ≤ 32768 → transcript gifts room free text ≡ above ++ p ∷ below → Stands room free (brought gifts room free text) above p
+  -- The `!` lines are those of the lines that are at fault and of the calls that are refused, and no others.
+  pub refused : length text ≤ 32768 → refusals_in (transcript gifts room free text) ≡ refusals_from gifts room free 1 new_day (heard text)

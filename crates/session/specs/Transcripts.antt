@@ -7,7 +7,6 @@ use Rattle.text.specs.declared.printed.Layer.{Layer}
 use Rattle.text.specs.declared.printed.Layer.TheVariants.{Text, Session, Market}
 use Rattle.text.specs.declared.printed.Printed.{Printed}
 use Rattle.text.specs.declared.printed.Printed.TheVariants as shown
-use Rattle.text.specs.Printed.{printed_bytes}
 use Rattle.replay.specs.Refusals.{other_phase}
 use Rattle.replay.specs.Days.{Day, new_day, Phase, Closed, Rule, Outcome, Answer, Done, Number, Lines, Entered, Refused}
 use Rattle.replay.specs.Calls.{is_phase, handed, step}
@@ -16,6 +15,8 @@ use Rattle.playback.specs.declared.call.Call.{Call}
 use Rattle.playback.specs.Stages.{call_of}
 use Rattle.playback.specs.Lent.{lent}
 use Rattle.market.specs.declared.words.TapeLine.{TapeLine}
+use Rattle.sharing.specs.Turns.{by_time}
+use Rattle.text.specs.Printed.{bytes_of}
 use Rattle.session.specs.Hearing.{heard, calls_among}
 
 -- a call of another phase is refused by the session, any other by the market
@@ -68,6 +69,6 @@ module _ (gifts : Rule) (room free : ℕ) where
   abbrev pub lines_after : List ℕ → List TapeLine → List TapeLine
   lines_after text ls = cond (nat_lt 32768 (length text)) ls (lent gifts room new_day (map (call_of free) (calls_among (heard text))) ls)
 
-abbrev pub bytes_of : List Printed → List ℕ
-bytes_of [] = []
-bytes_of (p ∷ ps) = printed_bytes p ++ bytes_of ps
+-- the bytes that the program prints of a text: by time priority, with 512 places for stops and 2,049 free lines a call
+abbrev pub day_shown : List ℕ → List ℕ
+day_shown text = bytes_of (transcript by_time 512 2049 text)

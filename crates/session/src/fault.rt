@@ -1,19 +1,28 @@
 // Why a line of a day was refused: by which layer, and with nothing lost of what that layer said.
 ghost use Rattle.std.specs.Prelude.{◌≡◌};
-ghost use Rattle.session.specs.declared.fault.Cause.TheVariants.{OtherPhase, Market};
-ghost use Rattle.session.specs.Faults.{cause_of, layer_in, number_in, refused};
+ghost use Rattle.session.specs.declared.fault.Cause.TheVariants.{Text};
+ghost use Rattle.session.specs.Faults.{cause_of, layer_in, number_in, field_in, refused};
 
-use market::refusal::Refusal as MarketRefusal;
+use market::refusal::Refusal;
 use playback::reply::{CallRefusal, OTHER_PHASE};
 use text::printed::{Layer, Printed};
-use text::refusal::Refusal as TextRefusal;
+use text::read::Fault as TextFault;
 
 #[derive(Clone, Copy)]
 pub enum Cause {
-    Text(TextRefusal),
+    // the line says nothing, as its reader found
+    Text(TextFault),
     // the line belongs to another phase of the day
     OtherPhase,
-    Market(MarketRefusal),
+    Market(Refusal),
+}
+
+impl From<TextFault> for Cause {
+    ghost from_gives = { λ fault whole. whole ≡ Text fault };
+
+    fn from(fault: TextFault) -> Cause {
+        Cause::Text(fault)
+    }
 }
 
 impl From<CallRefusal> for Cause {
@@ -42,19 +51,28 @@ impl Cause {
         ensures { result ≡ number_in self }
     {
         match self {
-            Cause::Text(refusal) => refusal.code(),
+            Cause::Text(fault) => fault.cause.code(),
             Cause::OtherPhase => OTHER_PHASE,
             Cause::Market(refusal) => refusal.number(),
         }
     }
+
+    // Only a text has fields.
+    fn field(self) -> u32
+        ensures { result ≡ field_in self }
+    {
+        match self {
+            Cause::Text(fault) => fault.field,
+            Cause::OtherPhase | Cause::Market(_) => 0,
+        }
+    }
 }
 
-// The line, the cause, and the field's place: 0 where no field is at fault.
+// The number of the line, and what is wrong with it.
 #[derive(Clone, Copy)]
 pub struct Fault {
     pub line: u32,
     pub cause: Cause,
-    pub field: u32,
 }
 
 impl Fault {
@@ -66,7 +84,7 @@ impl Fault {
             line: self.line,
             layer: self.cause.layer(),
             number: self.cause.number(),
-            field: self.field,
+            field: self.cause.field(),
         }
     }
 }

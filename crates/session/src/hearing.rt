@@ -3,27 +3,26 @@ ghost use Rattle.std.specs.Prelude.{◌≡◌, ◌<◌, length};
 ghost use Rattle.replay.specs.Days.{Phase, Loading};
 ghost use Rattle.replay.specs.Calls.{is_phase};
 ghost use Rattle.text.specs.Letters.{column_letter};
-ghost use Rattle.text.specs.Cuts.{line_of, rest_of};
+ghost use Rattle.text.specs.Cuts.{line_of, rest_of, next_of};
 ghost use Rattle.text.specs.Reading.{record_in};
-ghost use Rattle.session.specs.Hearing.{ticket_of, call_for};
+ghost use Rattle.session.specs.Hearing.{ticket_of, call_for, ending_at};
 
 use market::words::{Column, Kind, PricedOrder};
 use orderbook::ticket::Ticket;
 use playback::call::Call;
-use text::fault::LineFault;
-use text::read::read_line;
+use text::read::{Fault, read_line};
 use text::record::Record;
 
 // The record of a text's first line, or what is wrong with it, and the text behind it.
 #[derive(Drop)]
 pub(crate) struct FirstLine<'a> {
-    pub(crate) record: Result<Record, LineFault>,
+    pub(crate) record: Result<Record, Fault>,
     pub(crate) rest: &'a [u8],
 }
 
 pub(crate) fn first_line(text: &[u8]) -> FirstLine<'_>
     requires { 0 < length text.now }
-    ensures answer { result.«record» ≡ record_in (line_of text.now) }
+    ensures answer { result.«record» ≡ ending_at (next_of text.now) (record_in (line_of text.now)) }
     ensures rest { result.rest.now ≡ rest_of text.now }
 {
     match read_line(text) {
@@ -32,10 +31,7 @@ pub(crate) fn first_line(text: &[u8]) -> FirstLine<'_>
             rest: read.rest,
         },
         Err(fault) => FirstLine {
-            record: Err(LineFault {
-                cause: fault.cause,
-                field: fault.field,
-            }),
+            record: Err(fault),
             rest: &text[fault.next..],
         },
     }

@@ -7,3 +7,4 @@ mod hearing;
 mod showing;
 pub mod transcript;
 mod turn;
+pub mod two_texts;

@@ -28,7 +28,7 @@ whole_lots most n = nat_le lot n && nat_le n most && n % lot == 0
 abbrev pub all_lawful : List ℕ → Bool
 all_lawful row = list_all (whole_lots most_shares) row
 
--- 1 to 512 entries, each a multiple of 100 from 100 to 1,000,000
+-- 1 to 512 entries, each of whole lots, 100 at least and 1,000,000 at most
 abbrev pub lawful_row : List ℕ → Bool
 lawful_row row = nat_le 1 (length row) && nat_le (length row) most_entries && all_lawful row
 
@@ -50,5 +50,5 @@ pub record LawfulRule (gifts : List ℕ → ℕ → List ℕ) : Type 0 where
   pub within : (row : List ℕ) (q : ℕ) → AllZip (λ gift entry. gift ≤ entry) (gifts row q) row
   -- each gift is whole lots
   pub lots : (row : List ℕ) (q : ℕ) → AllByRecursion (λ gift. gift % lot ≡ 0) (gifts row q)
-  -- for any other row or quantity every gift is 0
+  -- whatever cannot be shared out gets no gifts
   pub other : (row : List ℕ) (q : ℕ) → shareable row q ≡ false → gifts row q ≡ zeros row

@@ -6,7 +6,7 @@ ghost use Rattle.sharing.specs.Keeps.{rotation_lawful};
 
 use crate::rule::{LOT, MOST_SHARES, ShareOut, can_share, give_in_order, give_nothing};
 
-// Gives 100 to each unfilled entry in row order, round after round, until the quantity is spent.
+// Gives a lot to each entry in turn that is not yet full, and begins again at the front as long as anything is left.
 #[derive(Clone, Copy, PartialEq, Eq, Debug)]
 pub struct Rotation;
 

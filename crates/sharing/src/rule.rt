@@ -12,7 +12,7 @@ pub const MOST_SHARES: u32 = 1_000_000;
 // The most entries of a row.
 pub const MOST_ENTRIES: usize = 512;
 
-// A rule that says who gets how many shares of a quantity. The row has the open shares at one price, lowest order number first.
+// A rule that says who gets how many shares of a quantity. The row has what is open at one price, the order that came first in front.
 pub trait ShareOut {
     // How many shares each entry of the row is given: by the rule, the row and the quantity alone.
     ghost gifts: { Self → List ℕ → ℕ → List ℕ };

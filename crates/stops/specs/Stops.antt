@@ -1,4 +1,4 @@
--- What a stop file means: a list of stops, and what each operation makes of it.
+-- Stop files stand for lists of stops: what each operation makes of such a list.
 use Rattle.std.specs.Prelude.{ℕ, zero, suc, Bool, cond, List, [], ◌∷◌, ◌++◌, length, Some, None, Ok, Err, Option, Result, ◌==◌, nat_lt}
 use Rattle.std.specs.List.{find, list_all}
 use Rattle.market.specs.declared.words.Stop.{Stop}
@@ -7,7 +7,7 @@ use Rattle.market.specs.Sides.{as_good}
 use Rattle.stops.specs.declared.stop_file.NotAdded.{NotAdded}
 use Rattle.stops.specs.declared.stop_file.NotAdded.TheVariants.{NotAbove, Full}
 
--- a trade at p reaches a buy stop priced at p or lower, and a sell stop priced at p or higher
+-- a trade at p reaches the buy stops up to p, and the sell stops from p upwards
 abbrev pub reaches : Side → ℕ → ℕ → Bool
 reaches s p q = as_good s p q
 

@@ -67,3 +67,8 @@ module _ (text : List ℕ) (some : 0 < length text) (rest : List ℕ) (is : rest
 
   pub refused_more : refused_in (lines_of text) ≡ one (is_err (record_in (line_of text))) + refused_in (lines_of rest)
   refused_more = ap refused_in ahead
+
+-- each line is counted once
+pub counted : {A E : Type 0} (r : Result A E) → one (is_ok r) + one (is_err r) ≡ 1
+counted (Ok a) = refl
+counted (Err e) = refl

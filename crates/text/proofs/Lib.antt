@@ -4,3 +4,5 @@ pub mod Fields
 pub mod ReadsBack
 pub mod WritesBack
 pub mod Inspecting
+pub mod Printing
+pub mod Limited

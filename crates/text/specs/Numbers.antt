@@ -1,4 +1,4 @@
--- A number in a field: 0, or 1 to 7 digits without a leading zero.
+-- A number in a field: seven digits at most, and no zero in front of others.
 use Rattle.std.specs.Prelude.{ℕ, ◌+◌, ◌-◌, ◌*◌, Bool, cond, not, ◌&&◌, ◌||◌, List, [], ◌∷◌, length, Some, None, Option, ◌==◌, nat_le, nat_lt, slice_index}
 use Rattle.std.specs.Str.{all_ascii_digits}
 

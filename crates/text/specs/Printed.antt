@@ -25,3 +25,7 @@ printed_bytes (Accepted number) = ended 65 (decimal number ∷ [])
 printed_bytes (Tape line) = tape_bytes line ++ 10 ∷ []
 printed_bytes (Refused line layer number field) = refused_bytes line layer number field
 printed_bytes (Totals accepted printed cancelled left) = ended 90 (decimal accepted ∷ decimal printed ∷ decimal cancelled ∷ decimal left ∷ [])
+
+abbrev pub bytes_of : List Printed → List ℕ
+bytes_of [] = []
+bytes_of (p ∷ ps) = printed_bytes p ++ bytes_of ps

@@ -1,3 +1,4 @@
+// Day lines in and out, printed lines out, and the inspection of a day file.
 #![tactic(auto)]
 
 mod cut;

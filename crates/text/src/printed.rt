@@ -1,14 +1,18 @@
 // The lines that programs print of a day, each with its end.
-ghost use Rattle.std.specs.Prelude.{◌≡◌, ◌∷◌, ◌++◌, decimal, OnOk};
+ghost use Rattle.std.specs.Prelude.{◌≡◌, ◌∷◌, decimal, map};
+ghost use Rattle.streams.specs.Sinks.{Took};
 ghost use Rattle.text.specs.Written.{text_of};
-ghost use Rattle.text.specs.declared.printed.Printed.TheVariants.{Accepted, Totals};
-ghost use Rattle.text.specs.Printed.{layer_letter, refused_bytes, printed_bytes};
+ghost use Rattle.text.specs.declared.printed.Printed.TheVariants.{Accepted, Tape, Totals};
+ghost use Rattle.text.specs.Printed.{layer_letter, refused_bytes, printed_bytes, bytes_of};
 
 use crate::line::Line;
-use crate::tape::tape_line;
+use crate::tape::write_tape_line;
 use itoa::Buffer;
 use market::words::TapeLine;
-use std::alloc::AllocError;
+use streams::sink::Sink;
+
+// Room for a line of the tape.
+const ROOM: usize = 64;
 
 // Which layer refused a line.
 #[derive(Clone, Copy)]
@@ -67,49 +71,62 @@ fn accepted_line(number: u32) -> Line
 }
 
 // One of the totals, behind a tab. They are wider than what a line under construction holds.
-fn push_total(out: &mut Vec<u8>, total: u64) -> Result<(), AllocError>
-    ensures { OnOk result (out.new.items ≡ out.old.items ++ 9 ∷ decimal total) }
+fn put_total<K: Sink>(sink: &mut K, total: u64)
+    ensures { Took (K.state sink.old) (K.state sink.new) (9 ∷ decimal total) }
 {
-    out.push(b'\t')?;
-    out.extend_from_slice(Buffer::new().format(total).as_bytes())
+    sink.put(b"\t");
+    sink.put(Buffer::new().format(total).as_bytes());
 }
 
-fn push_totals(
-    out: &mut Vec<u8>,
-    accepted: u64,
-    printed: u64,
-    cancelled: u64,
-    open: u64,
-) -> Result<(), AllocError>
-    ensures { OnOk result (out.new.items ≡ out.old.items ++ printed_bytes (Totals accepted printed cancelled «open»)) }
+fn put_totals<K: Sink>(sink: &mut K, accepted: u64, printed: u64, cancelled: u64, open: u64)
+    ensures { Took (K.state sink.old) (K.state sink.new) (printed_bytes (Totals accepted printed cancelled «open»)) }
 {
-    out.push(b'Z')?;
-    push_total(out, accepted)?;
-    push_total(out, printed)?;
-    push_total(out, cancelled)?;
-    push_total(out, open)?;
-    out.push(b'\n')?;
-    Ok(())
+    sink.put(b"Z");
+    put_total(sink, accepted);
+    put_total(sink, printed);
+    put_total(sink, cancelled);
+    put_total(sink, open);
+    sink.put(b"\n");
 }
 
-// Puts a printed line behind those that stand there.
-pub fn print_line(out: &mut Vec<u8>, printed: Printed) -> Result<(), AllocError>
-    ensures { OnOk result (out.new.items ≡ out.old.items ++ printed_bytes printed) }
+// Puts a line of the tape by way of some room.
+fn put_tape<K: Sink>(sink: &mut K, line: TapeLine, room: &mut [u8; ROOM])
+    ensures { Took (K.state sink.old) (K.state sink.new) (printed_bytes (Tape line)) }
+{
+    match write_tape_line(line, room) {
+        Ok(count) => sink.put(&room[..count]),
+        Err(_) => unreachable!(),
+    }
+}
+
+// Puts a printed line.
+pub fn print_line<K: Sink>(sink: &mut K, printed: Printed)
+    ensures { Took (K.state sink.old) (K.state sink.new) (printed_bytes printed) }
 {
     match printed {
-        Printed::Accepted(number) => out.extend_from_slice(accepted_line(number).as_slice()),
-        Printed::Tape(line) => out.extend_from_slice(tape_line(line).as_slice()),
+        Printed::Accepted(number) => sink.put(accepted_line(number).as_slice()),
+        Printed::Tape(line) => put_tape(sink, line, &mut [0; ROOM]),
         Printed::Refused {
             line,
             layer,
             number,
             field,
-        } => out.extend_from_slice(refused_line(line, layer, number, field).as_slice()),
+        } => sink.put(refused_line(line, layer, number, field).as_slice()),
         Printed::Totals {
             accepted,
             printed,
             cancelled,
             open,
-        } => push_totals(out, accepted, printed, cancelled, open),
+        } => put_totals(sink, accepted, printed, cancelled, open),
+    }
+}
+
+// Puts lines of the tape, by way of the same room.
+pub fn print_tape<K: Sink>(sink: &mut K, lines: &[TapeLine])
+    ensures { Took (K.state sink.old) (K.state sink.new) (bytes_of (map Tape lines.now)) }
+{
+    let mut room = [0; ROOM];
+    for line in lines {
+        put_tape(sink, *line, &mut room);
     }
 }

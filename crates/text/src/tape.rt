@@ -32,8 +32,9 @@ fn fields_of(line: TapeLine) -> Line
 }
 
 // The line with its end.
-pub(crate) fn tape_line(line: TapeLine) -> Line
-    ensures { text_of result ≡ tape_bytes line ++ 10 ∷ [] }
+fn tape_line(line: TapeLine) -> Line
+    ensures text { text_of result ≡ tape_bytes line ++ 10 ∷ [] }
+    ensures within { length (tape_bytes line) ≤ 56 }
 {
     fields_of(line).end()
 }
@@ -42,6 +43,7 @@ pub(crate) fn tape_line(line: TapeLine) -> Line
 pub fn write_tape_line(line: TapeLine, buffer: &mut [u8]) -> Result<usize, Refusal>
     ensures answer { result ≡ put_length (Ok (tape_bytes line ++ 10 ∷ [])) buffer.old }
     ensures buffer { buffer.new ≡ put_buffer (Ok (tape_bytes line ++ 10 ∷ [])) buffer.old }
+    ensures within { length (tape_bytes line) ≤ 56 }
 {
     tape_line(line).copy_to(buffer)
 }

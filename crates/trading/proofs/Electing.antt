@@ -1,4 +1,4 @@
--- Taking from the stop file until nothing is elected, stop by stop, is electing.
+-- To take elected stops one by one, as long as there are any, is to elect.
 use Rattle.std.proofs.Common.{◌≡◌, ℕ, suc, ◌+◌, ◌≤◌, Bool, true, false, cond, ◌&&◌, eqb, List, [], ◌∷◌, ◌++◌, map, length, Some, None, sym, refl, ap, ◌∙◌, subst, arith}
 use Rattle.std.proofs.lemmas.Bool.{eq-eqb, ne_eqb}
 use Rattle.market.specs.declared.words.Side.{Side}

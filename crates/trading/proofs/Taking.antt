@@ -1,4 +1,4 @@
--- The loop that takes from the stop file until nothing is elected.
+-- The loop that takes elected stops as long as there are any.
 use Rattle.std.proofs.Common.{◌≡◌, ℕ, suc, ◌+◌, ◌≤◌, Bool, true, false, cond, List, [], ◌∷◌, ◌++◌, length, Some, None, sym, ap, ◌∙◌, subst, arith}
 use Rattle.std.proofs.lemmas.Bool.{false≢true}
 use Rattle.market.specs.declared.words.Place.TheVariants.{Line}

@@ -15,7 +15,7 @@ use orderbook::ticket::Ticket;
 use sharing::rule::ShareOut;
 use stops::stop_file::StopFile;
 
-// A new day from a rule and a stop file, which is emptied.
+// A new day with its rule; the stop file that it gets is emptied.
 pub fn begin<R: ShareOut, F: StopFile>(rule: R, file: F) -> LoadingDay<R, F>
     ensures day { day_of days.Loading result.board ≡ new_day }
     ensures file { F.StopFile.stops result.file ≡ [] }

@@ -43,7 +43,7 @@ impl<P: WhileOpen, R: ShareOut, F: StopFile> Day<P, R, F> {
         Ok(self.board.cancel(&mut self.file, number, tape))
     }
 
-    // A trade on the floor becomes the last sale, sets the range, ends a pause, elects stops, and then the line runs.
+    // A trade on the floor: the range is set round it, trading goes on, it elects, and those in line run.
     pub fn floor_trade(
         &mut self,
         price: u32,

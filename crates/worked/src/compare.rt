@@ -2,8 +2,8 @@
 use crate::seen::{Line, answer_of, line_of, mode_of};
 use crate::sessions::Row;
 use market::words::TapeLine;
+use playback::places::Places;
 use playback::reply::View;
-use playback::report::Report;
 
 fn is_tape(lines: &[TapeLine], expected: &[Line]) -> bool {
     lines.len() == expected.len()
@@ -14,20 +14,21 @@ fn is_tape(lines: &[TapeLine], expected: &[Line]) -> bool {
 }
 
 // Each call answered and left the day as its row says, and the tape is the expected one.
-pub(crate) fn is_as_expected(report: &Report, rows: &[Row], tape: &[Line]) -> bool {
-    report.replies.len() == rows.len()
-        && report.views.len() == rows.len()
-        && report
-            .replies
+pub(crate) fn is_as_expected(noted: &Places<'_>, rows: &[Row], tape: &[Line]) -> bool {
+    noted.is_whole()
+        && noted.replies().len() == rows.len()
+        && noted.views().len() == rows.len()
+        && noted
+            .replies()
             .iter()
             .zip(rows)
             .all(|(reply, row)| answer_of(*reply) == row.1)
-        && report
-            .views
+        && noted
+            .views()
             .iter()
             .zip(rows)
             .all(|(view, row)| mode_of(*view) == row.2)
-        && is_tape(report.tape.as_slice(), tape)
+        && is_tape(noted.tape(), tape)
 }
 
 // Both quotes, the pause and the range.
@@ -36,34 +37,34 @@ fn is_same_view(one: View, other: View) -> bool {
 }
 
 // The same replies, views and tape.
-pub(crate) fn is_same(one: &Report, other: &Report) -> bool {
-    one.replies.len() == other.replies.len()
-        && one.views.len() == other.views.len()
-        && one.tape.len() == other.tape.len()
+pub(crate) fn is_same(one: &Places<'_>, other: &Places<'_>) -> bool {
+    one.replies().len() == other.replies().len()
+        && one.views().len() == other.views().len()
+        && one.tape().len() == other.tape().len()
         && one
-            .replies
+            .replies()
             .iter()
-            .zip(other.replies.iter())
+            .zip(other.replies())
             .all(|(a, b)| answer_of(*a) == answer_of(*b))
         && one
-            .views
+            .views()
             .iter()
-            .zip(other.views.iter())
+            .zip(other.views())
             .all(|(a, b)| is_same_view(*a, *b))
         && one
-            .tape
+            .tape()
             .iter()
-            .zip(other.tape.iter())
+            .zip(other.tape())
             .all(|(a, b)| line_of(*a) == line_of(*b))
 }
 
 // The same lines, but for the shares of cancellations.
-pub(crate) fn prints_alike(one: &Report, other: &Report) -> bool {
-    one.tape.len() == other.tape.len()
+pub(crate) fn prints_alike(one: &Places<'_>, other: &Places<'_>) -> bool {
+    one.tape().len() == other.tape().len()
         && one
-            .tape
+            .tape()
             .iter()
-            .zip(other.tape.iter())
+            .zip(other.tape())
             .all(|(a, b)| is_same_print(line_of(*a), line_of(*b)))
 }
 

@@ -4,27 +4,24 @@ use crate::seen::Mode::NoRange;
 use crate::sessions::Row;
 use crate::steps::Step::{Limit, Load, Open};
 use market::words::Side::Buy;
-use std::alloc::{AllocError, Global};
 
 // All are loaded, one more is refused, and so is one entered after the opening.
-pub(crate) fn loaded(heap: Global) -> Result<Vec<Row>, AllocError> {
-    let mut rows = Vec::new(heap);
-    for number in 1..513 {
-        rows.push(Row(Load(Buy, 1, 2000, 100), Number(number), NoRange))?;
+pub(crate) fn loaded() -> [Row; 515] {
+    let mut rows = [Row(Load(Buy, 1, 2000, 100), Refused(43), NoRange); 515];
+    for (row, number) in rows.iter_mut().zip(1..513) {
+        *row = Row(Load(Buy, 1, 2000, 100), Number(number), NoRange);
     }
-    rows.push(Row(Load(Buy, 1, 2000, 100), Refused(43), NoRange))?;
-    rows.push(Row(Open, Done, NoRange))?;
-    rows.push(Row(Limit(Buy, 1, 2000, 100), Refused(43), NoRange))?;
-    Ok(rows)
+    rows[513] = Row(Open, Done, NoRange);
+    rows[514] = Row(Limit(Buy, 1, 2000, 100), Refused(43), NoRange);
+    rows
 }
 
 // All are entered after the opening, and one more is refused.
-pub(crate) fn entered(heap: Global) -> Result<Vec<Row>, AllocError> {
-    let mut rows = Vec::new(heap);
-    rows.push(Row(Open, Done, NoRange))?;
-    for number in 1..513 {
-        rows.push(Row(Limit(Buy, 1, 2000, 100), Entered(number, 0), NoRange))?;
+pub(crate) fn entered() -> [Row; 514] {
+    let mut rows = [Row(Limit(Buy, 1, 2000, 100), Refused(43), NoRange); 514];
+    for (row, number) in rows.iter_mut().zip(0..513) {
+        *row = Row(Limit(Buy, 1, 2000, 100), Entered(number, 0), NoRange);
     }
-    rows.push(Row(Limit(Buy, 1, 2000, 100), Refused(43), NoRange))?;
-    Ok(rows)
+    rows[0] = Row(Open, Done, NoRange);
+    rows
 }

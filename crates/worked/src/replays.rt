@@ -1,62 +1,44 @@
 // A session is replayed under both rules and with both stop files, and a line is printed of it.
-ghost use Rattle.std.specs.Prelude.{IfOk};
-ghost use Rattle.worked.specs.Alike.{Alike};
+ghost use Rattle.playback.specs.Fitting.{SameLent};
+ghost use Rattle.worked.specs.Alike.{Alike, SameSpace};
 
 use crate::compare::{is_as_expected, is_same, prints_alike};
-use crate::sessions::{Row, Session};
-use market::words::{Side, Stop, TapeLine};
+use crate::lent::{MOST_CALLS, Memory, NO_LINE, NO_STOP, calls_of};
+use crate::sessions::Session;
 use playback::call::Call;
-use playback::report::Report;
-use playback::whole_day::replay;
+use playback::places::Places;
+use playback::two_days;
+use playback::whole_day::replay_into;
 use sharing::rotation::Rotation;
 use sharing::rule::ShareOut;
 use sharing::time_priority::TimePriority;
-use std::alloc::{AllocError, Global};
 use std::io;
 use stops::arrival::ArrivalFile;
 use stops::tables::PriceFile;
 
-const NO_STOP: Stop = Stop {
-    number: 0,
-    side: Side::Buy,
-    price: 0,
-    shares: 0,
-};
-
-const NO_LINE: TapeLine = TapeLine::Elect { order: 0 };
-
-fn calls_of(heap: Global, rows: &[Row]) -> Result<Vec<Call>, AllocError> {
-    let mut calls = Vec::new(heap);
-    for row in rows {
-        calls.push(row.0.call())?;
-    }
-    Ok(calls)
-}
-
-// What came of a list of calls with either stop file.
-#[derive(Drop)]
-struct Both {
-    arrival: Report,
-    price: Report,
-}
-
-// The lines suffice for any call. Whatever the rule and the calls, the same is seen with either file.
-fn replay_both<R: ShareOut + Drop + Copy>(
-    heap: Global,
+// The lines suffice for any call. Whatever the rule and the calls, the same is noted with either file.
+fn replay_both<R: ShareOut + Copy + Drop>(
     rule: R,
     calls: &[Call],
-) -> Result<Both, AllocError>
-    ensures { IfOk result (λ both. Alike both.arrival both.price) }
+    arrival: &mut Places<'_>,
+    price: &mut Places<'_>,
+)
+    ensures alike { SameSpace arrival.old price.old → Alike arrival.new price.new }
+    ensures same { SameLent arrival.old arrival.new × SameLent price.old price.new }
 {
     let mut slots = [NO_STOP; 512];
     let mut lines = [NO_LINE; 2049];
-    let arrival = replay(heap, rule, ArrivalFile::new(&mut slots), calls, &mut lines)?;
-    let price = replay(heap, rule, PriceFile::new(), calls, &mut lines)?;
-    Ok(Both { arrival, price })
+    arrival.clear();
+    price.clear();
+    let by_arrival = ArrivalFile::new(&mut slots);
+    let by_price = PriceFile::new();
+    two_days::replay_both(
+        rule, by_arrival, by_price, calls, calls, &mut lines, arrival, price,
+    );
 }
 
 // How the two rules compare: orders that traded are filled alike, or others are filled by the same prints.
-fn rules_compared(time: &Report, turns: &Report) -> &'static str {
+fn rules_compared(time: &Places<'_>, turns: &Places<'_>) -> &'static str {
     if is_same(time, turns) {
         "rules alike"
     } else if prints_alike(time, turns) {
@@ -66,18 +48,18 @@ fn rules_compared(time: &Report, turns: &Report) -> &'static str {
     }
 }
 
-fn verdict(good: bool) -> &'static str {
+pub(crate) fn verdict(good: bool) -> &'static str {
     if good { "as expected" } else { "DIFFERS" }
 }
 
 // Calls, lines and the numbers of the refusals.
-fn print_counts(rt: &impl Print, name: &str, report: &Report) -> io::Result<()> {
+fn print_counts(rt: &impl Print, name: &str, noted: &Places<'_>) -> io::Result<()> {
     print!(rt;
         "{name}: {} calls, {} lines, refused",
-        report.replies.len(),
-        report.tape.len()
+        noted.replies().len(),
+        noted.tape().len()
     )?;
-    for reply in &report.replies {
+    for reply in noted.replies() {
         if let Err(refusal) = reply {
             print!(rt; " {}", refusal.number())?;
         }
@@ -85,27 +67,39 @@ fn print_counts(rt: &impl Print, name: &str, report: &Report) -> io::Result<()> 
     Ok(())
 }
 
-pub(crate) fn show(rt: &impl Print, heap: Global, session: &Session<'_>) -> io::Result<()> {
-    let calls = calls_of(heap, session.rows)?;
-    let time = replay_both(heap, TimePriority, calls.as_slice())?;
-    let turns = replay_both(heap, Rotation, calls.as_slice())?;
-    let good = is_as_expected(&time.arrival, session.rows, session.by_time)
-        && is_as_expected(&turns.arrival, session.rows, session.by_turns)
-        && is_same(&time.arrival, &time.price)
-        && is_same(&turns.arrival, &turns.price);
-    let rules = rules_compared(&time.arrival, &turns.arrival);
-    print_counts(rt, session.name, &time.arrival)?;
-    println!(rt; "; stop files alike, {rules}: {}", verdict(good))
+pub(crate) fn show(rt: &impl Print, session: &Session<'_>) -> io::Result<()> {
+    let mut calls = [Call::Open; MOST_CALLS];
+    let calls = calls_of(session.rows, &mut calls);
+    let mut first = Memory::new();
+    let mut second = Memory::new();
+    let mut time = Places::new(&mut first.replies, &mut first.views, &mut first.tape);
+    let mut other = Places::new(&mut second.replies, &mut second.views, &mut second.tape);
+    replay_both(TimePriority, calls, &mut time, &mut other);
+    let by_time = is_as_expected(&time, session.rows, session.by_time) && is_same(&time, &other);
+    let mut third = Memory::new();
+    let mut turns = Places::new(&mut third.replies, &mut third.views, &mut third.tape);
+    replay_both(Rotation, calls, &mut turns, &mut other);
+    let by_turns = is_as_expected(&turns, session.rows, session.by_turns)
+        && is_same(&turns, &other);
+    let rules = rules_compared(&time, &turns);
+    print_counts(rt, session.name, &time)?;
+    println!(rt;
+        "; stop files alike, {rules}: {}",
+        verdict(by_time && by_turns)
+    )
 }
 
 // With few slots for stops and few lines, by arrival alone: the file by price has room for 512 stops.
-pub(crate) fn show_narrow(rt: &impl Print, heap: Global, session: &Session<'_>) -> io::Result<()> {
-    let calls = calls_of(heap, session.rows)?;
+pub(crate) fn show_narrow(rt: &impl Print, session: &Session<'_>) -> io::Result<()> {
+    let mut calls = [Call::Open; MOST_CALLS];
     let mut slots = [NO_STOP; 2];
     let mut lines = [NO_LINE; 11];
+    let mut memory = Memory::new();
+    let mut noted = Places::new(&mut memory.replies, &mut memory.views, &mut memory.tape);
+    let calls = calls_of(session.rows, &mut calls);
     let file = ArrivalFile::new(&mut slots);
-    let report = replay(heap, TimePriority, file, calls.as_slice(), &mut lines)?;
-    let good = is_as_expected(&report, session.rows, session.by_time);
-    print_counts(rt, session.name, &report)?;
+    replay_into(TimePriority, file, calls, &mut lines, &mut noted);
+    let good = is_as_expected(&noted, session.rows, session.by_time);
+    print_counts(rt, session.name, &noted)?;
     println!(rt; ": {}", verdict(good))
 }

@@ -15,7 +15,7 @@ pub(crate) enum Answer {
 // A line of the tape, by its letter.
 #[derive(Clone, Copy, PartialEq, Eq)]
 pub(crate) enum Line {
-    // order run, price, shares, low and high of the range
+    // who ran, at which price, how many shares, and the ends of the range
     P(u32, u32, u32, u32, u32),
     // order, shares
     X(u32, u32),
@@ -24,7 +24,7 @@ pub(crate) enum Line {
     F(u32, u32),
 }
 
-// Low and high of the range in force, and whether trading is paused.
+// The ends of the range, if there is one, and whether trading is paused.
 #[derive(Clone, Copy, PartialEq, Eq)]
 pub(crate) enum Mode {
     NoRange,

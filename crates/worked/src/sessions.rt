@@ -1,23 +1,26 @@
 // The sessions: the calls of a day, what each answers, whether trading goes on and in which range, and the tape. All values were worked
 // out by hand from the rules.
+use crate::questions::{Asked, Question};
 use crate::seen::Answer::{self, Done, Entered, Lines, Number, Refused};
 use crate::seen::Line::{self, E, F, P, X};
 use crate::seen::Mode::{self, Going, NoRange, Paused};
 use crate::steps::Step::{
     self, AtOnce, Cancel, Close, Floor, Limit, Load, LoadStop, Market, Open, Resume, Set, Stop,
 };
+use market::words::Place;
 use market::words::Side::{Buy, Sell};
 
 #[derive(Clone, Copy)]
 pub(crate) struct Row(pub(crate) Step, pub(crate) Answer, pub(crate) Mode);
 
-// A list of calls, and the tape under each share-out rule.
+// A list of calls, and the tape under each share-out rule. Questions are asked where the calls are put one by one.
 #[derive(Clone, Copy)]
 pub(crate) struct Session<'a> {
     pub(crate) name: &'a str,
     pub(crate) rows: &'a [Row],
     pub(crate) by_time: &'a [Line],
     pub(crate) by_turns: &'a [Line],
+    pub(crate) asked: &'a [Asked],
 }
 
 const LOTS: [Row; 13] = [
@@ -42,16 +45,35 @@ const LOTS_TAPE: [Line; 2] = [F(2000, 100), F(2000, 1_000_000)];
 const SWEEP: [Row; 12] = [
     Row(Set(2, 'L', 2010), Done, NoRange),
     Row(Load(Buy, 1, 2008, 200), Number(1), NoRange),
-    Row(Load(Sell, 1, 2012, 300), Number(2), NoRange),
-    Row(Load(Sell, 2, 2013, 500), Number(3), NoRange),
-    Row(Load(Sell, 3, 2015, 400), Number(4), NoRange),
-    Row(Load(Sell, 4, 2030, 1000), Number(5), NoRange),
+    Row(Load(Sell, 2, 2012, 300), Number(2), NoRange),
+    Row(Load(Sell, 3, 2013, 500), Number(3), NoRange),
+    Row(Load(Sell, 4, 2015, 400), Number(4), NoRange),
+    Row(Load(Sell, 5, 2030, 1000), Number(5), NoRange),
     Row(Open, Done, Going(2000, 2020)),
-    Row(Market(Buy, 5, 1000), Entered(6, 2), Going(2000, 2020)),
-    Row(Market(Buy, 6, 500), Entered(7, 1), Paused(2000, 2020)),
+    Row(Market(Buy, 6, 1000), Entered(6, 2), Going(2000, 2020)),
+    Row(Market(Buy, 7, 500), Entered(7, 1), Paused(2000, 2020)),
     Row(Resume, Lines(0), Paused(2005, 2025)),
     Row(Floor(2031, 100), Refused(61), Paused(2005, 2025)),
     Row(Floor(2028, 100), Lines(2), Going(2018, 2038)),
+];
+
+// Trading is paused after the second market order, after Resume and after the floor trade that is refused.
+const SWEEP_ASKED: [Asked; 15] = [
+    Asked(6, Question::Bid(Some((2008, 200)))),
+    Asked(6, Question::Offer(Some((2012, 300)))),
+    Asked(7, Question::Offer(Some((2015, 200)))),
+    Asked(8, Question::Open(7, Place::Line, 300)),
+    Asked(8, Question::Bid(Some((2008, 200)))),
+    Asked(8, Question::Offer(Some((2030, 1000)))),
+    Asked(8, Question::Totals(3900, 1200, 0, 1500)),
+    Asked(9, Question::Open(7, Place::Line, 300)),
+    Asked(9, Question::Bid(Some((2008, 200)))),
+    Asked(9, Question::Offer(Some((2030, 1000)))),
+    Asked(10, Question::Open(7, Place::Line, 300)),
+    Asked(10, Question::Offer(Some((2030, 1000)))),
+    Asked(11, Question::Open(7, Place::Nowhere, 0)),
+    Asked(11, Question::Offer(Some((2030, 700)))),
+    Asked(11, Question::Totals(3900, 1500, 0, 900)),
 ];
 
 const SWEEP_TAPE: [Line; 5] = [
@@ -167,24 +189,28 @@ pub(crate) const SESSIONS: [Session<'static>; 4] = [
         rows: &LOTS,
         by_time: &LOTS_TAPE,
         by_turns: &LOTS_TAPE,
+        asked: &[],
     },
     Session {
         name: "sweep, pause, floor trade",
         rows: &SWEEP,
         by_time: &SWEEP_TAPE,
         by_turns: &SWEEP_TAPE,
+        asked: &SWEEP_ASKED,
     },
     Session {
         name: "stops at a print's price",
         rows: &ELECTION,
         by_time: &ELECTION_TAPE,
         by_turns: &ELECTION_TAPE,
+        asked: &[],
     },
     Session {
         name: "rows shared out",
         rows: &DAY,
         by_time: &DAY_BY_TIME,
         by_turns: &DAY_BY_TURNS,
+        asked: &[],
     },
 ];
 
@@ -195,18 +221,39 @@ pub(crate) const MISTOLD: [Session<'static>; 3] = [
         rows: &[Row(Open, Refused(21), NoRange)],
         by_time: &[],
         by_turns: &[],
+        asked: &[],
     },
     Session {
         name: "a wrong range",
         rows: &[Row(Open, Done, Going(2000, 2020))],
         by_time: &[],
         by_turns: &[],
+        asked: &[],
     },
     Session {
         name: "a wrong tape",
         rows: &LOTS,
         by_time: &[F(2000, 100), F(2000, 999_900)],
         by_turns: &LOTS_TAPE,
+        asked: &[],
+    },
+];
+
+// Here a question is told wrong, or stands behind the last call.
+pub(crate) const MISASKED: [Session<'static>; 2] = [
+    Session {
+        name: "a wrong quote",
+        rows: &[Row(Open, Done, NoRange)],
+        by_time: &[],
+        by_turns: &[],
+        asked: &[Asked(0, Question::Bid(Some((2000, 100))))],
+    },
+    Session {
+        name: "a question behind the last call",
+        rows: &[Row(Open, Done, NoRange)],
+        by_time: &[],
+        by_turns: &[],
+        asked: &[Asked(1, Question::Bid(None))],
     },
 ];
 
@@ -242,4 +289,5 @@ pub(crate) const NARROW: Session<'static> = Session {
     rows: &REFUSALS,
     by_time: &REFUSALS_TAPE,
     by_turns: &REFUSALS_TAPE,
+    asked: &[],
 };

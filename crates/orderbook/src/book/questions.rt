@@ -89,7 +89,7 @@ impl Book {
             .is_some_and(|best| order.in_limit(best.price))
     }
 
-    // Whether a price is below the best bid or above the best offer.
+    // Whether a price lies outside the quote: under the bid or over the offer.
     pub fn is_outside(&self, price: u32) -> bool
         ensures { result ≡ outside price (roll_of self.now) }
     {

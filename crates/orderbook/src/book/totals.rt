@@ -1,4 +1,4 @@
-// Totals over every order of the roll.
+// Sums over the whole roll.
 ghost use Rattle.std.specs.Prelude.{◌≡◌, ◌/◌};
 ghost use Rattle.replay.specs.Lists.{total};
 ghost use Rattle.orderbook.specs.Books.{roll_of};

@@ -7,11 +7,14 @@ ghost use Rattle.trading.specs.Deeds.{Did};
 ghost use Rattle.playback.specs.declared.call.Call.{Call};
 ghost use Rattle.playback.specs.declared.call.Call.TheVariants.{Open, Close};
 ghost use Rattle.playback.specs.Replies.{answer_of};
+ghost use Rattle.playback.specs.Phases.{phase_of};
 ghost use Rattle.playback.specs.Stages.{call_of, day_in, board_in, rule_in, file_in, LeadsOn, Unmoved};
 
 use crate::call::Call;
+use crate::phase::Phase;
 use crate::reply::{CallRefusal, Reply};
 use crate::stage::Stage;
+use core::mem::replace_with;
 use market::words::TapeLine;
 use sharing::rule::ShareOut;
 use stops::stop_file::StopFile;
@@ -72,7 +75,7 @@ fn trade<R: ShareOut, F: StopFile>(
 
 impl<R: ShareOut, F: StopFile> Stage<R, F> {
     // The board of the day.
-    pub fn board(&self) -> &Board
+    pub(crate) fn board(&self) -> &Board
         ensures { result.now ≡ board_in self.now }
     {
         match self {
@@ -82,9 +85,22 @@ impl<R: ShareOut, F: StopFile> Stage<R, F> {
         }
     }
 
-    // Puts a call to the day in place, as a day is large. One that leads to the next phase alters nothing and has no reply yet: `moved`
-    // performs it.
-    pub fn put(&mut self, call: Call, tape: &mut [TapeLine]) -> Option<Result<Reply, CallRefusal>>
+    pub(crate) fn phase(&self) -> Phase
+        ensures { phase_of result ≡ (day_in self.now).phase }
+    {
+        match self {
+            Stage::Load(_) => Phase::Loading,
+            Stage::Trade(_) => Phase::Trading,
+            Stage::Shut(_) => Phase::Closed,
+        }
+    }
+
+    // A call that leaves the day in its phase. One that leads to the next alters nothing and has no reply yet.
+    fn put_within(
+        &mut self,
+        call: Call,
+        tape: &mut [TapeLine],
+    ) -> Option<Result<Reply, CallRefusal>>
         ensures did { IfSome result (λ r. Did (R.ShareOut.gifts (rule_in self.old)) (F.StopFile.room (file_in self.old)) (day_in self.old) (call_of (length tape.old) call) (answer_of r) (day_in self.new) (F.StopFile.stops (file_in self.new)) tape.old tape.new) }
         ensures leads_on { IfNone result (Unmoved call self.old self.new tape.old tape.new) }
         ensures keeps { (F.StopFile.room (file_in self.new) ≡ F.StopFile.room (file_in self.old)) × (rule_in self.new ≡ rule_in self.old) }
@@ -103,7 +119,7 @@ impl<R: ShareOut, F: StopFile> Stage<R, F> {
     }
 
     // The day in its next phase: the call that leads there is performed. A closed day stays as it is.
-    pub fn moved(self) -> Stage<R, F>
+    fn moved(self) -> Stage<R, F>
         ensures did { (call : Call) (ls : List TapeLine) → LeadsOn call self → Did (R.ShareOut.gifts (rule_in self)) (F.StopFile.room (file_in self)) (day_in self) (call_of (length ls) call) Done (day_in result) (F.StopFile.stops (file_in result)) ls ls }
         ensures stays { (day_in self).phase ≡ Closed → result ≡ self }
         ensures keeps { (F.StopFile.room (file_in result) ≡ F.StopFile.room (file_in self)) × (rule_in result ≡ rule_in self) }
@@ -112,6 +128,20 @@ impl<R: ShareOut, F: StopFile> Stage<R, F> {
             Stage::Load(day) => Stage::Trade(day.open()),
             Stage::Trade(day) => Stage::Shut(day.close()),
             Stage::Shut(day) => Stage::Shut(day),
+        }
+    }
+
+    // Puts a call to the day in place, as a day is large, whatever phase it leads to.
+    pub(crate) fn put(&mut self, call: Call, tape: &mut [TapeLine]) -> Result<Reply, CallRefusal>
+        ensures did { Did (R.ShareOut.gifts (rule_in self.old)) (F.StopFile.room (file_in self.old)) (day_in self.old) (call_of (length tape.old) call) (answer_of result) (day_in self.new) (F.StopFile.stops (file_in self.new)) tape.old tape.new }
+        ensures keeps { (F.StopFile.room (file_in self.new) ≡ F.StopFile.room (file_in self.old)) × (rule_in self.new ≡ rule_in self.old) }
+    {
+        match self.put_within(call, tape) {
+            Some(reply) => reply,
+            None => {
+                replace_with(self, (), |old: Stage<R, F>, _unused: ()| (old.moved(), ()));
+                Ok(Reply::Done)
+            }
         }
     }
 }

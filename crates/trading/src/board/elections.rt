@@ -39,7 +39,7 @@ impl Board {
         true
     }
 
-    // Takes from the stop file until nothing is elected. Each stop taken gets a line of the tape and joins the line's end.
+    // Takes elected stops as long as there are any. Each is told of on the tape and waits behind the others.
     #[tactic(auto, using(crate::proofs::Electing::one_fewer, crate::proofs::Electing::none_fewer))]
     pub(crate) fn elect<F: StopFile>(&mut self, file: &mut F, price: u32, tape: &mut Tape)
         requires { HasRoom (length (F.StopFile.stops file.old)) tape.old }

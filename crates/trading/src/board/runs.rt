@@ -15,7 +15,7 @@ use sharing::rule::ShareOut;
 use stops::stop_file::StopFile;
 
 impl Board {
-    // The range is set after the run of the first order that prints while none is in force.
+    // Where none is in force, the first run that prints sets the range once it is over.
     fn centre_first(&mut self, before: Option<Range>, first: Option<u32>)
         ensures { (ls : List TapeLines) → Does self.old ls self.new ls (centre_if before first) }
     {

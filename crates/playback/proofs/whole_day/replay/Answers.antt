@@ -1,46 +1,32 @@
-use Rattle.std.proofs.Common.{rules, ◌≡◌, ◌∷◌, ◌++◌, ◌<◌, ◌-◌, [], length, get_or, take, map, sym, refl, ap, ◌∙◌, arith}
-use Rattle.std.proofs.lemmas.List.{drop_more, map-append, drop_all}
-use Rattle.replay.specs.Days.{Loading, new_day}
-use Rattle.trading.specs.declared.board.Board.{Board}
-use Rattle.trading.specs.Boards.{day_of}
-use Rattle.playback.specs.Views.{view_of}
+use Rattle.std.proofs.Common.{rules, ◌≡◌, ◌∷◌, ◌++◌, ◌<◌, ◌-◌, ◌+◌, [], length, get_or, take, map, sym, refl, ap, ◌∙◌, subst, arith}
+use Rattle.std.proofs.lemmas.List.{take_more, map-append, take_all}
+use Rattle.replay.specs.Days.{new_day}
+use Rattle.replay.specs.Calls.{after_calls}
 use Rattle.playback.specs.declared.call.Call.TheVariants.{Set}
-use Rattle.playback.specs.Stages.{call_of}
+use Rattle.playback.specs.Lent.{over, lent}
+use Rattle.playback.specs.Reached.{Reached, Went}
+use Rattle.playback.specs.ReachedDays.{day_at}
 use Rattle.playback.specs.Replies.{answer_of, lines_of}
-use Rattle.playback.proofs.Replaying.{begun, told_fit, went_on, did_by, midway_by, view_in, all_told}
+use Rattle.playback.specs.Seen.{Follows, seen}
+use Rattle.playback.specs.Stages.{call_of}
 use Rattle.playback.proofs.Lawful.{list_laws}
-use Rattle.playback.proofs.Stepping.{Deed, deed_by, led}
+use Rattle.playback.proofs.OneMore.{written, fits}
+use Rattle.playback.proofs.Noted.{follows_more, seen_more, lent_more, telling, view_at, went_by, whole_tape, adds_up}
 use Rattle.playback.proofs.whole_day.replay.Goals as goal
-use Rattle.playback.proofs.whole_day.replay.Goals.{in-Some, in-None}
 
 pub loop-call-init : goal.loop-call-init
-unfolding new_day
+unfolding new_day lent seen after_calls
 loop-call-init g c =
-    let b = c.begin.ensures in
-    let n = c.new-report.ensures in
-    record {
-      long = refl;
-      rule = b.keeps.1;
-      room = b.keeps.0;
-      midway = begun _ _ _ b.day (ap (map answer_of) n.0) n.1 n.2;
-    }
+    let b = c.begin-day.ensures in
+    record { long = refl; rule = b.keeps.1; room = b.keeps.0; reached = b.day; told = refl; lines = refl }
 
 pub slice_bounds-note-end : goal.slice_bounds-note-end
 slice_bounds-note-end g c =
     let v = c.loop-call.invariant in
     let x = get_or c.args.calls.now c.loop-call.call-index (Set 0 0 0) in
-    let r = c.match-put.reply in
-    let deed : Deed g.R.ShareOut.gifts g.F.StopFile.room g.F.StopFile.stops x r c.loop-call.stage c.match-put.stage c.loop-call.lines c.put.new.tape =
-    elim c.match-put.branch [
-      | in-Some w ↦ deed_by _ _ _ w.reply-is w.stage-is (record { did = w.in-Some.ensures.did; keeps = c.put.ensures.keeps })
-      | in-None w ↦ deed_by _ _ _ w.reply-is w.stage-is (led _ _ _ w.in-None.ensures.leads_on w.moved-stage.ensures.did w.moved-stage.ensures.keeps)
-    ] in
-    let did = did_by x (ap g.R.ShareOut.gifts v.rule) v.room v.long deed.did in
-    let count : c.map_or-used.result ≡ lines_of r = search rules in
-    omega (arith, count, told_fit r v.midway did)
-
-pub returns-in_err-note-clause-laws : goal.returns-in_err-note-clause-laws
-returns-in_err-note-clause-laws g c = list_laws _ (g.R.ShareOut.lawful c.args.rule) _ _
+    let w = went_by x _ (ap g.R.ShareOut.gifts v.rule) v.room v.long c.put-reply.ensures.went v.reached in
+    let count : c.map_or-used.result ≡ lines_of c.put-reply.result = search rules in
+    omega (arith, count, fits c.put-reply.result w)
 
 pub loop-call-preserved : goal.loop-call-preserved
 loop-call-preserved g c =
@@ -50,42 +36,35 @@ loop-call-preserved g c =
     let n = length c.args.lines.now in
     let lt : i < length xs = omega arith in
     let x = get_or xs i (Set 0 0 0) in
-    let r = c.match-put.reply in
-    let k = c.in_ok-note.ensures in
-    let st = c.match-put.stage in
-    let deed : Deed g.R.ShareOut.gifts g.F.StopFile.room g.F.StopFile.stops x r c.loop-call.stage st c.loop-call.lines c.put.new.tape =
-    elim c.match-put.branch [
-      | in-Some w ↦ deed_by _ _ _ w.reply-is w.stage-is (record { did = w.in-Some.ensures.did; keeps = c.put.ensures.keeps })
-      | in-None w ↦ deed_by _ _ _ w.reply-is w.stage-is (led _ _ _ w.in-None.ensures.leads_on w.moved-stage.ensures.did w.moved-stage.ensures.keeps)
-    ] in
-    let did = did_by x (ap g.R.ShareOut.gifts v.rule) v.room v.long deed.did in
-    let rest = midway_by (ap (map (call_of n)) (drop_more xs i (Set 0 0 0) lt)) refl refl refl v.midway in
-    let seen = c.of-view.ensures Loading ∙ ap (λ (b : Board). view_of (day_of Loading b)) c.board.ensures ∙ view_in st in
-    let used : c.map_or-used.result ≡ lines_of r = search rules in
-    let count : lines_of r ≡ c.map_or-used.result - 0 = omega (arith, used) in
+    let gifts = g.R.ShareOut.gifts c.args.rule in
+    let room = g.F.StopFile.room c.args.file in
+    let cs = map (call_of n) (take i xs) in
+    let day = c.put-reply.new.self in
+    let w : Went gifts room cs (call_of n x) (answer_of c.put-reply.result) (day_at day) c.loop-call.lines c.put-reply.new.lines = went_by x cs (ap g.R.ShareOut.gifts v.rule) v.room v.long c.put-reply.ensures.went v.reached in
+    let more : map (call_of n) (take (i + 1) xs) ≡ cs ++ call_of n x ∷ [] = ap (map (call_of n)) (take_more xs i (Set 0 0 0) lt) ∙ map-append (call_of n) (take i xs) (x ∷ []) in
+    let used : c.map_or-used.result ≡ lines_of c.put-reply.result = search rules in
+    let count : c.map_or-used.result - 0 ≡ lines_of c.put-reply.result = omega (arith, used) in
+    let view = view_at day.stage c.of.ensures c.board.ensures.board in
+    let tells = subst (λ s. g.N.Notes.notes c.loop-call.notes s c.note.new.self) (sym (telling c.put-reply.result w c.of.result _ count view)) c.note.ensures in
     record {
-      long = c.put.auto.tape ∙ v.long;
-      rule = deed.keeps.1 ∙ v.rule;
-      room = deed.keeps.0 ∙ v.room;
-      midway =
-          midway_by refl
-          (sym (ap (map answer_of) k.replies ∙ map-append answer_of c.loop-call.report.replies.items (r ∷ [])))
-          (sym k.views)
-          (ap (λ m. c.loop-call.report.tape.items ++ take m c.put.new.tape) count ∙ sym k.tape)
-          (went_on r c.of-view.result rest did seen);
+      long = c.put-reply.auto.lines ∙ v.long;
+      rule = c.put-reply.ensures.keeps.1 ∙ v.rule;
+      room = c.put-reply.ensures.keeps.0 ∙ v.room;
+      reached = subst (λ y. Reached gifts room y (day_at day)) (sym more) w.reached;
+      told =
+          subst (λ l. Follows g.N.Notes.notes c.args.notes.now l c.note.new.self) (sym (ap (seen gifts room new_day) more ∙ seen_more gifts room new_day cs (call_of n x)))
+          (follows_more g.N.Notes.notes c.args.notes.now (seen gifts room new_day cs) v.told tells);
+      lines = w.lines ∙ ap (over (written gifts room cs (call_of n x))) v.lines ∙ sym (ap (λ y. lent gifts room new_day y c.args.lines.now) more ∙ lent_more gifts room cs (call_of n x) c.args.lines.now);
     }
 
-pub returns-clause-replies : goal.returns-clause-replies
-returns-clause-replies g c = (all_told (ap (map (call_of (length c.args.lines.now))) (drop_all c.loop-call.call-index c.args.calls.now (omega arith))) c.loop-call.invariant.midway).0
-
-pub returns-clause-views : goal.returns-clause-views
-returns-clause-views g c = (all_told (ap (map (call_of (length c.args.lines.now))) (drop_all c.loop-call.call-index c.args.calls.now (omega arith))) c.loop-call.invariant.midway).1
-
-pub returns-clause-tape : goal.returns-clause-tape
-returns-clause-tape g c = (all_told (ap (map (call_of (length c.args.lines.now))) (drop_all c.loop-call.call-index c.args.calls.now (omega arith))) c.loop-call.invariant.midway).2
+pub returns-clause-sums : goal.returns-clause-sums
+returns-clause-sums g c =
+    let v = c.loop-call.invariant in
+    let all = ap (map (call_of (length c.args.lines.now))) (take_all c.loop-call.call-index c.args.calls.now (omega arith)) in
+    adds_up (g.R.ShareOut.lawful c.args.rule) _ _ (subst (λ y. Reached (g.R.ShareOut.gifts c.args.rule) (g.F.StopFile.room c.args.file) y (day_at c.loop-call.day)) all v.reached)
 
 pub returns-clause-laws : goal.returns-clause-laws
 returns-clause-laws g c = list_laws _ (g.R.ShareOut.lawful c.args.rule) _ _
 
-pub returns-clause-lines : goal.returns-clause-lines
-returns-clause-lines g c = (all_told (ap (map (call_of (length c.args.lines.now))) (drop_all c.loop-call.call-index c.args.calls.now (omega arith))) c.loop-call.invariant.midway).3
+pub returns-clause-tape : goal.returns-clause-tape
+returns-clause-tape g c = sym (whole_tape _ _ _)

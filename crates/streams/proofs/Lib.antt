@@ -1,0 +1,4 @@
+pub mod Known
+pub mod Taking
+pub mod Placing
+pub mod Relaying

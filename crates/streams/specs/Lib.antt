@@ -1,0 +1,5 @@
+pub mod Sinks
+pub mod Sources
+pub mod Written
+pub mod Waiting
+pub mod Relays
