@@ -248,7 +248,7 @@ const MEETS_NOBODY_ASKED: [Asked; 3] = [
 ];
 
 // Any stop file and tape will do for these too.
-pub(crate) const EXAMPLES: [Session<'static>; 11] = [
+pub(crate) static EXAMPLES: [Session<'static>; 11] = [
     Session {
         name: "a sweep of the bids",
         rows: &SELL_SWEPT,

@@ -8,7 +8,7 @@ use crate::steps::Step::{Cancel, Close, Limit, Load, LoadStop, Open, Resume, Set
 use market::words::Side::{Buy, Sell};
 
 // Calls that are refused, for the first reason that applies, between some that are not.
-pub(crate) const FAULTS: [(usize, Row); 25] = [
+pub(crate) static FAULTS: [(usize, Row); 25] = [
     (0, Row(Set(4, 'A', 100_001), Refused(31), NoRange)),
     (0, Row(Set(3, 'A', 100_001), Refused(32), NoRange)),
     (0, Row(Set(3, 'H', 100_001), Refused(33), NoRange)),
@@ -42,10 +42,10 @@ pub(crate) const FAULTS: [(usize, Row); 25] = [
     (0, Row(Close, Refused(21), Going(99_800, 100_200))),
 ];
 
-pub(crate) const FAULTS_TAPE: [Line; 1] = [X(1, 100)];
+pub(crate) static FAULTS_TAPE: [Line; 1] = [X(1, 100)];
 
 // With a stop file of one place.
-pub(crate) const FILE_FULL: [(usize, Row); 5] = [
+pub(crate) static FILE_FULL: [(usize, Row); 5] = [
     (0, Row(LoadStop(Buy, 1, 100, 100), Number(1), NoRange)),
     (0, Row(LoadStop(Buy, 1, 100, 100), Refused(46), NoRange)),
     (0, Row(Open, Done, NoRange)),

@@ -40,15 +40,23 @@ fn show_replays(rt: &impl Print, sessions: &[Session<'_>]) -> io::Result<()> {
     Ok(())
 }
 
-fn show_all_replays(rt: &impl Print) -> io::Result<()> {
-    show_replays(rt, &SESSIONS)?;
+fn show_full_rolls(rt: &impl Print) -> io::Result<()> {
     show(rt, &full("512 orders loaded", &full_roll::loaded()))?;
-    show(rt, &full("512 orders entered", &full_roll::entered()))?;
-    show_narrow(rt, &NARROW)?;
-    single_calls::show(rt)?;
+    show(rt, &full("512 orders entered", &full_roll::entered()))
+}
+
+fn show_examples(rt: &impl Print) -> io::Result<()> {
     show_replays(rt, &EXAMPLES)?;
     show_replays(rt, &PAUSES)?;
     show_replays(rt, &MISTOLD)
+}
+
+fn show_all_replays(rt: &impl Print) -> io::Result<()> {
+    show_replays(rt, &SESSIONS)?;
+    show_full_rolls(rt)?;
+    show_narrow(rt, &NARROW)?;
+    single_calls::show(rt)?;
+    show_examples(rt)
 }
 
 fn show_call_by_call(rt: &impl Print, sessions: &[Session<'_>]) -> io::Result<()> {
@@ -58,14 +66,22 @@ fn show_call_by_call(rt: &impl Print, sessions: &[Session<'_>]) -> io::Result<()
     Ok(())
 }
 
-fn show_all_call_by_call(rt: &impl Print) -> io::Result<()> {
-    show_call_by_call(rt, &SESSIONS)?;
+fn show_full_rolls_call_by_call(rt: &impl Print) -> io::Result<()> {
     call_by_call::show(rt, &full("512 orders loaded", &full_roll::loaded()))?;
-    call_by_call::show(rt, &full("512 orders entered", &full_roll::entered()))?;
-    call_by_call::show_narrow(rt, &NARROW)?;
+    call_by_call::show(rt, &full("512 orders entered", &full_roll::entered()))
+}
+
+fn show_examples_call_by_call(rt: &impl Print) -> io::Result<()> {
     show_call_by_call(rt, &EXAMPLES)?;
     show_call_by_call(rt, &PAUSES)?;
-    few_lines::show(rt)?;
+    few_lines::show(rt)
+}
+
+fn show_all_call_by_call(rt: &impl Print) -> io::Result<()> {
+    show_call_by_call(rt, &SESSIONS)?;
+    show_full_rolls_call_by_call(rt)?;
+    call_by_call::show_narrow(rt, &NARROW)?;
+    show_examples_call_by_call(rt)?;
     show_call_by_call(rt, &MISTOLD)?;
     show_call_by_call(rt, &MISASKED)
 }

@@ -208,7 +208,7 @@ const STOPS_WAITED_ASKED: [Asked; 6] = [
 ];
 
 // Any stop file and tape will do for these too.
-pub(crate) const PAUSES: [Session<'static>; 6] = [
+pub(crate) static PAUSES: [Session<'static>; 6] = [
     Session {
         name: "stops filed in a pause, then a print",
         rows: &PRINT_LATER,

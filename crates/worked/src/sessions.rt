@@ -183,7 +183,7 @@ const DAY_BY_TURNS: [Line; 16] = [
 ];
 
 // Those that any stop file and tape will do for.
-pub(crate) const SESSIONS: [Session<'static>; 4] = [
+pub(crate) static SESSIONS: [Session<'static>; 4] = [
     Session {
         name: "shares from 100 to 1,000,000",
         rows: &LOTS,
@@ -215,7 +215,7 @@ pub(crate) const SESSIONS: [Session<'static>; 4] = [
 ];
 
 // What is expected here is wrong on purpose, in one place each, so that it is seen that a difference is told.
-pub(crate) const MISTOLD: [Session<'static>; 3] = [
+pub(crate) static MISTOLD: [Session<'static>; 3] = [
     Session {
         name: "a wrong answer",
         rows: &[Row(Open, Refused(21), NoRange)],
@@ -240,7 +240,7 @@ pub(crate) const MISTOLD: [Session<'static>; 3] = [
 ];
 
 // Here a question is told wrong, or stands behind the last call.
-pub(crate) const MISASKED: [Session<'static>; 2] = [
+pub(crate) static MISASKED: [Session<'static>; 2] = [
     Session {
         name: "a wrong quote",
         rows: &[Row(Open, Done, NoRange)],
@@ -284,7 +284,7 @@ const REFUSALS: [Row; 21] = [
 const REFUSALS_TAPE: [Line; 1] = [X(1, 100)];
 
 // Meets each refusal of a call but 43, with a stop file for 2 stops and a line fewer than an order needs beside them.
-pub(crate) const NARROW: Session<'static> = Session {
+pub(crate) static NARROW: Session<'static> = Session {
     name: "2 stops, 11 lines",
     rows: &REFUSALS,
     by_time: &REFUSALS_TAPE,
