@@ -1,5 +1,5 @@
 // Sources and sinks over fakes.
-use crate::fakes::{Narrow, Pieces, Stuck};
+use crate::fakes::{Broken, Narrow, Pieces, Signalled, Stuck};
 use std::io;
 use std::io::ErrorKind;
 use std::test::Fail;
@@ -41,6 +41,20 @@ fn a_reader_that_fails_reads_no_more(rt: HostRuntime) {
 }
 
 #[test]
+fn a_thousand_interruptions_are_no_failure(rt: HostRuntime) {
+    let interruptions = 1_000;
+    let mut source = Kept::new(Signalled { interruptions });
+    let mut buffer = [7; 3];
+    assert_eq!(rt; source.read(&mut buffer), 3);
+    assert_eq!(rt; buffer, *b"xxx");
+    assert_eq!(rt; kind_of(source.check()), None);
+    let mut sink = Kept::new(Signalled { interruptions });
+    sink.put(b"one");
+    sink.finish();
+    assert_eq!(rt; kind_of(sink.check()), None);
+}
+
+#[test]
 fn a_short_writer_gets_all(rt: HostRuntime) {
     let mut taken: Vec<u8> = Vec::new(rt.alloc());
     let mut sink = Kept::new(Narrow::new(&mut taken, 3));
@@ -79,6 +93,14 @@ fn what_is_not_passed_on_has_failed(rt: HostRuntime) {
     let mut sink = Kept::new(Stuck);
     sink.put(b"one");
     assert_eq!(rt; kind_of(sink.check()), None);
+    sink.finish();
+    assert_eq!(rt; kind_of(sink.check()), Some(ErrorKind::BrokenPipe));
+}
+
+#[test]
+fn the_first_error_is_kept(rt: HostRuntime) {
+    let mut sink = Kept::new(Broken);
+    sink.put(b"one");
     sink.finish();
     assert_eq!(rt; kind_of(sink.check()), Some(ErrorKind::BrokenPipe));
 }

@@ -125,3 +125,52 @@ impl Write for Stuck {
         Err(Error::from(ErrorKind::BrokenPipe))
     }
 }
+
+// Is interrupted so often, and then reads and writes all that there is room for.
+#[derive(Drop)]
+pub struct Signalled {
+    pub interruptions: u32,
+}
+
+impl Signalled {
+    fn wait(&mut self) -> io::Result<()> {
+        if self.interruptions == 0 {
+            return Ok(());
+        }
+        self.interruptions -= 1;
+        Err(Error::from(ErrorKind::Interrupted))
+    }
+}
+
+impl Read for Signalled {
+    fn read(&mut self, buf: &mut [u8]) -> io::Result<usize> {
+        self.wait()?;
+        buf.fill(b'x');
+        Ok(buf.len())
+    }
+}
+
+impl Write for Signalled {
+    fn write(&mut self, buf: &[u8]) -> io::Result<usize> {
+        self.wait()?;
+        Ok(buf.len())
+    }
+
+    fn flush(&mut self) -> io::Result<()> {
+        Ok(())
+    }
+}
+
+// Fails at once, and for another reason when it is to pass on.
+#[derive(Drop)]
+pub struct Broken;
+
+impl Write for Broken {
+    fn write(&mut self, _buf: &[u8]) -> io::Result<usize> {
+        Err(Error::from(ErrorKind::BrokenPipe))
+    }
+
+    fn flush(&mut self) -> io::Result<()> {
+        Err(Error::from(ErrorKind::ConnectionReset))
+    }
+}
