@@ -1,8 +1,5 @@
 // The roll: every order that was accepted, in the order of their numbers.
-ghost use Rattle.std.specs.Prelude.{◌≡◌, [], ◌∷◌, ◌++◌, length, if◌then◌else◌, Ok, Err, nat_lt};
-ghost use Rattle.market.specs.Changes.{order_at, allowed_at, does_at};
-ghost use Rattle.market.specs.Rolls.{listed};
-ghost use Rattle.market.specs.declared.refusal.Refusal.TheVariants.{RollFull};
+ghost use Rattle.std.specs.Prelude.{◌≡◌, ◌≤◌, [], ◌∷◌, ◌++◌, length, if◌then◌else◌, Ok, Err, nat_lt};
 
 use crate::bounds::ROLL;
 use crate::change::Change;
@@ -14,9 +11,15 @@ use arrayvec::ArrayVec;
 #[derive(Drop)]
 pub struct Roll {
     orders: ArrayVec<Order, ROLL>,
+    // said here too, as callers see the items of an ArrayVec but not how many it holds at most
+    ghost within: { length orders.items ≤ 512 },
 }
 
 impl Roll {
+    ghost use Rattle.market.specs.Changes.{order_at, allowed_at, does_at};
+    ghost use Rattle.market.specs.Rolls.{listed};
+    ghost use Rattle.market.specs.declared.refusal.Refusal.TheVariants.{RollFull};
+
     pub fn new() -> Roll
         ensures { listed result ≡ [] }
     {
