@@ -72,13 +72,15 @@ pub struct Resting<S> {
     pub side: S,
 }
 
-// The better price first; at one price the order that came first, which has the lower number.
+// The better price first; at one price the order that came first, which has the lower number. Written out, as an order is filed by many such
+// comparisons: `ranks_before` would read each number before it is known whether the prices are one.
 impl<S: BookSide> Ranked for Resting<S> {
     ghost before = { λ a b. precedence S.BookSide.side a.price a.number b.price b.number };
 
     ghost strict = { resting_strict S.BookSide.side (λ x. x.price) (λ x. x.number) };
 
     fn precedes(&self, other: &Resting<S>) -> bool {
-        S::side().ranks_before((self.price, self.number), (other.price, other.number))
+        S::better(self.price, other.price)
+            || (self.price == other.price && self.number < other.number)
     }
 }
