@@ -71,7 +71,7 @@ pub(crate) fn give_in_order(row: &mut [u32], level: u32, most: u32, quantity: u3
     let mut left = quantity;
     for entry in row.iter_mut() {
         let paid = (*entry).min(level);
-        let gift = (*entry - paid).min(left).min(most);
+        let gift = (*entry - paid).min(most).min(left);
         *entry = paid + gift;
         left -= gift;
     }
