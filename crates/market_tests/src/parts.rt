@@ -1,6 +1,7 @@
 // Ranges, orders, the roll and files in order.
+use arrayvec::ArrayVec;
 use market::change::Change;
-use market::file::{insert, remove_at};
+use market::file::{insert, insert_in_order, remove_at};
 use market::range::range_around;
 use market::roll::Roll;
 use market::side::{Bids, Offers, Resting};
@@ -78,4 +79,19 @@ fn bids_in_order(rt: HostRuntime) {
     assert_eq!(rt; (file[0].number, file[1].number, file[2].number), (3, 1, 2));
     assert!(rt; remove_at(&mut file, 3, 1).is_some() && remove_at(&mut file, 2, 2).is_none());
     assert_eq!(rt; (file[0].number, file[1].number), (3, 2));
+}
+
+// The same in a vector, as the book and the stop file keep theirs.
+#[test]
+fn bids_in_a_vector(rt: HostRuntime) {
+    let mut file: ArrayVec<Resting<Bids>, 3> = ArrayVec::new();
+    assert_eq!(rt; insert_in_order(&mut file, bid(2010, 2)).ok(), Some(0));
+    assert_eq!(rt; insert_in_order(&mut file, bid(2011, 3)).ok(), Some(0));
+    assert_eq!(rt; insert_in_order(&mut file, bid(2010, 1)).ok(), Some(1));
+    assert!(rt; insert_in_order(&mut file, bid(2012, 4)).is_err());
+    let numbers = file.as_slice();
+    assert_eq!(rt;
+        (numbers[0].number, numbers[1].number, numbers[2].number),
+        (3, 1, 2)
+    );
 }
