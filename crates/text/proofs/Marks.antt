@@ -43,5 +43,5 @@ module _ (m : ℕ) where
     pub whole_front : None ≡ position (λ c. eqb c m) xs → xs ≡ up_to m xs
     whole_front e = let n = place_none e in sym (take_all (place xs) xs (omega arith)) ∙ up_to_is xs
 
-    pub nothing_past : None ≡ position (λ c. eqb c m) xs → [] ≡ past m xs
-    nothing_past e = let n = place_none e in sym (drop_all (place xs + 1) xs (omega arith)) ∙ past_is xs
+    pub end_past : None ≡ position (λ c. eqb c m) xs → take (length xs - length xs) (drop (length xs) xs) ≡ past m xs
+    end_past e = let n = place_none e in take_rest xs (length xs) ∙ drop_all (length xs) xs (omega arith) ∙ sym (drop_all (place xs + 1) xs (omega arith)) ∙ past_is xs

@@ -1,34 +1,22 @@
 -- Numbers in a field: what one more digit does, and both round trips. Assumes nothing.
-use Rattle.std.proofs.Common.{◌≡◌, ℕ, ◌^◌, ◌<◌, ◌≤◌, true, false, cond, List, length, get_or, Some, None, Ok, decimal, Result, sym, ap, ◌∙◌, subst, ⊎_elim, arith, rules}
+use Rattle.std.proofs.Common.{◌≡◌, ℕ, ◌^◌, ◌<◌, ◌≤◌, true, false, cond, List, length, get_or, Some, None, decimal, sym, ap, ◌∙◌, subst, ⊎_elim, arith, rules}
+use native.Mathlib.Nat.{pow-le-pow_right}
 use Rattle.std.specs.Str.{all_ascii_digits}
 use Rattle.std.proofs.lemmas.Bool.Decides.{nat_tests}
 use Rattle.std.proofs.lemmas.Bool.{cases_Bool, cases_lt}
-use Rattle.std.proofs.lemmas.Str.Parse.{IsNumeralModel, numerals_by_fold, tells_all_ascii_digits, digits_value_short, parse_gives}
-use Rattle.std.specs.Str.{IsUtf8}
-use Rattle.std.specs.Str.Parse.{ParsesUnsigned}
-use Rattle.std.proofs.lemmas.Str.{IsUtf8-from_ascii}
-use Rattle.std.proofs.lemmas.Fmt.{IsAscii-from_digits, first_decimal, decimal_digit, decimal_nonempty, length-decimal-le, digits_decimal, digits_value-decimal, decimal-digits_value}
+use Rattle.std.proofs.lemmas.Str.Parse.{IsNumeralModel, numerals_by_fold, tells_all_ascii_digits, digits_value_short}
+use Rattle.std.proofs.lemmas.Fmt.{first_decimal, decimal_digit, decimal_nonempty, length-decimal-le, digits_decimal, digits_value-decimal, decimal-digits_value}
 use Rattle.text.specs.Numbers.{value_on, is_numeral, number_in}
 
 own : IsNumeralModel (λ ds. all_ascii_digits ds ≡ true) (value_on 0)
 own = numerals_by_fold _ tells_all_ascii_digits value_on (search rules)
 
--- parsing the digits gives what they write
-module _ (bs : List ℕ) (numeral : is_numeral bs ≡ true) where
-  pub is_text : IsUtf8 bs
-  is_text =
-      let digits : all_ascii_digits bs ≡ true = grind (arith, nat_tests) in
-      IsUtf8-from_ascii bs (IsAscii-from_digits bs (own.to bs digits))
+is_number : (bs : List ℕ) → is_numeral bs ≡ true → number_in bs ≡ Some (value_on 0 bs)
+is_number bs numeral = ap (λ b. cond b (Some (value_on 0 bs)) None) numeral
 
-  pub parsed : {E : Type 0} (r : Result ℕ E) → ParsesUnsigned 32 10 bs r → r ≡ Ok (value_on 0 bs)
-  parsed r h =
-      let digits : all_ascii_digits bs ≡ true = grind (arith, nat_tests) in
-      let short : length bs ≤ 7 = grind (arith, nat_tests) in
-      let some : 0 < length bs = grind (arith, nat_tests) in
-      parse_gives own 32 bs r h digits some (omega (arith, digits_value_short own bs 7 digits short))
-
-  pub is_number : number_in bs ≡ Some (value_on 0 bs)
-  is_number = ap (λ b. cond b (Some (value_on 0 bs)) None) numeral
+-- before the last of seven digits
+pub ten_room : (n i : ℕ) → n < 10 ^ i → i < 7 → n < 1000000
+ten_room n i h k = let le : 10 ^ i ≤ 10 ^ 6 = pow-le-pow_right {n = 10} (omega arith) {i = i} {j = 6} (omega arith) in omega arith
 
 first_zero : (n : ℕ) → n < 2 ^ 64 → get_or (decimal n) 0 0 ≡ 48 → length (decimal n) ≤ 1
 first_zero n h z =

@@ -17,7 +17,7 @@ pub(crate) fn split_at_mark(text: &[u8], mark: u8) -> (&[u8], &[u8])
 {
     match first_mark(text, mark) {
         Some(n) => (&text[..n], &text[n + 1..]),
-        None => (text, &[]),
+        None => (text, &text[text.len()..]),
     }
 }
 

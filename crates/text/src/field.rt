@@ -48,6 +48,11 @@ impl FieldValue for u32 {
     }
 
     fn append_to(self, line: &mut ArrayVec<u8, 64>) {
+        // a digit alone needs no buffer
+        if self < 10 {
+            line.push(b'0' + self as u8);
+            return;
+        }
         let _fits = line.try_extend_from_slice(Buffer::new().format(self).as_bytes());
     }
 

@@ -42,7 +42,11 @@ fn summary_line(tally: Tally) -> Line
     ensures { text_of result ≡ summary_line tally.good tally.refused }
 {
     let Tally { good, refused } = tally;
-    Line::new(b'#').field(good).field(refused).end()
+    let mut line = Line::new(b'#');
+    line.field(good);
+    line.field(refused);
+    line.end();
+    line
 }
 
 // Shows the first line of a text and counts it. Answers what is left.

@@ -1,4 +1,5 @@
-// A line under construction: a letter, then fields that each follow a tab, then the line's end.
+// A line under construction: a letter, then fields that each follow a tab, then the line's end. The parts are added in place: a line that is
+// handed on by value is copied, all 64 bytes of it.
 ghost use Rattle.std.specs.Prelude.{◌≡◌, ◌+◌, ◌<◌, ◌≤◌, [], ◌∷◌, ◌++◌, length, Ok};
 
 use crate::field::FieldValue;
@@ -25,34 +26,31 @@ impl Line {
     }
 
     // A field more, behind a tab.
-    pub(crate) fn field<V: FieldValue>(mut self, value: V) -> Line
-        requires { length (text_of self) + 11 ≤ 64 }
-        ensures text { text_of result ≡ text_of self ++ 9 ∷ V.FieldValue.text value }
-        ensures within { length (text_of result) ≤ length (text_of self) + 11 }
+    pub(crate) fn field<V: FieldValue>(&mut self, value: V)
+        requires { length (text_of self.old) + 11 ≤ 64 }
+        ensures text { text_of self.new ≡ text_of self.old ++ 9 ∷ V.FieldValue.text value }
+        ensures within { length (text_of self.new) ≤ length (text_of self.old) + 11 }
     {
         self.bytes.push(b'\t');
         value.append_to(&mut self.bytes);
-        self
     }
 
     // A letter more, behind a tab.
-    pub(crate) fn letter(mut self, byte: u8) -> Line
-        requires { length (text_of self) + 2 ≤ 64 }
-        ensures text { text_of result ≡ text_of self ++ 9 ∷ byte ∷ [] }
-        ensures within { length (text_of result) ≤ length (text_of self) + 2 }
+    pub(crate) fn letter(&mut self, byte: u8)
+        requires { length (text_of self.old) + 2 ≤ 64 }
+        ensures text { text_of self.new ≡ text_of self.old ++ 9 ∷ byte ∷ [] }
+        ensures within { length (text_of self.new) ≤ length (text_of self.old) + 2 }
     {
         self.bytes.push(b'\t');
         self.bytes.push(byte);
-        self
     }
 
-    // The line with its end.
-    pub(crate) fn end(mut self) -> Line
-        requires { length (text_of self) < 64 }
-        ensures { text_of result ≡ text_of self ++ 10 ∷ [] }
+    // The line's end.
+    pub(crate) fn end(&mut self)
+        requires { length (text_of self.old) < 64 }
+        ensures { text_of self.new ≡ text_of self.old ++ 10 ∷ [] }
     {
         self.bytes.push(b'\n');
-        self
     }
 
     // Copies the line to the buffer's start, if it fits there.

@@ -56,18 +56,22 @@ pub enum Printed {
 pub(crate) fn refused_line(line: u32, layer: Layer, number: u32, field: u32) -> Line
     ensures { text_of result ≡ refused_bytes line layer number field }
 {
-    Line::new(b'!')
-        .field(line)
-        .letter(layer.letter())
-        .field(number)
-        .field(field)
-        .end()
+    let mut refusal = Line::new(b'!');
+    refusal.field(line);
+    refusal.letter(layer.letter());
+    refusal.field(number);
+    refusal.field(field);
+    refusal.end();
+    refusal
 }
 
 fn accepted_line(number: u32) -> Line
     ensures { text_of result ≡ printed_bytes (Accepted number) }
 {
-    Line::new(b'A').field(number).end()
+    let mut line = Line::new(b'A');
+    line.field(number);
+    line.end();
+    line
 }
 
 // One of the totals, behind a tab. They are wider than what a line under construction holds.

@@ -19,15 +19,32 @@ fn fields_of(line: TapeLine) -> Line
             shares,
             low,
             high,
-        } => Line::new(b'P')
-            .field(order)
-            .field(price)
-            .field(shares)
-            .field(low)
-            .field(high),
-        TapeLine::Cancel { order, shares } => Line::new(b'X').field(order).field(shares),
-        TapeLine::Elect { order } => Line::new(b'E').field(order),
-        TapeLine::Floor { price, shares } => Line::new(b'F').field(price).field(shares),
+        } => {
+            let mut text = Line::new(b'P');
+            text.field(order);
+            text.field(price);
+            text.field(shares);
+            text.field(low);
+            text.field(high);
+            text
+        }
+        TapeLine::Cancel { order, shares } => {
+            let mut text = Line::new(b'X');
+            text.field(order);
+            text.field(shares);
+            text
+        }
+        TapeLine::Elect { order } => {
+            let mut text = Line::new(b'E');
+            text.field(order);
+            text
+        }
+        TapeLine::Floor { price, shares } => {
+            let mut text = Line::new(b'F');
+            text.field(price);
+            text.field(shares);
+            text
+        }
     }
 }
 
@@ -36,7 +53,9 @@ fn tape_line(line: TapeLine) -> Line
     ensures text { text_of result ≡ tape_bytes line ++ 10 ∷ [] }
     ensures within { length (tape_bytes line) ≤ 56 }
 {
-    fields_of(line).end()
+    let mut text = fields_of(line);
+    text.end();
+    text
 }
 
 // Puts the line and its end at the buffer's start, and answers how many bytes that are.

@@ -49,35 +49,52 @@ fn fields_of(record: Record) -> Line
     ensures text { text_of result ≡ bytes_for «record» }
     ensures within { length (text_of result) ≤ 56 }
 {
-    let line = Line::new(record.kind().letter());
+    let mut line = Line::new(record.kind().letter());
     match record {
         Record::Set {
             class,
             column,
             last_sale,
-        } => line.field(class).field(column).field(last_sale),
+        } => {
+            line.field(class);
+            line.field(column);
+            line.field(last_sale);
+        }
         Record::Limit(order) | Record::ImmediateOrCancel(order) | Record::Stop(order) => {
-            line.field(order.side)
-                .field(order.member)
-                .field(order.price)
-                .field(order.shares)
+            line.field(order.side);
+            line.field(order.member);
+            line.field(order.price);
+            line.field(order.shares);
         }
         Record::Market {
             side,
             member,
             shares,
-        } => line.field(side).field(member).field(shares),
-        Record::Cancel { member, number } => line.field(member).field(number),
-        Record::FloorTrade { price, shares } => line.field(price).field(shares),
-        Record::Resume | Record::Open | Record::Close => line,
+        } => {
+            line.field(side);
+            line.field(member);
+            line.field(shares);
+        }
+        Record::Cancel { member, number } => {
+            line.field(member);
+            line.field(number);
+        }
+        Record::FloorTrade { price, shares } => {
+            line.field(price);
+            line.field(shares);
+        }
+        Record::Resume | Record::Open | Record::Close => {}
     }
+    line
 }
 
 // The line of a record, with its end.
 pub(crate) fn line_of(record: Record) -> Line
     ensures { text_of result ≡ bytes_for «record» ++ 10 ∷ [] }
 {
-    fields_of(record).end()
+    let mut line = fields_of(record);
+    line.end();
+    line
 }
 
 // Puts the record's line and its end at the buffer's start, and answers how many bytes that are.

@@ -1,4 +1,4 @@
-use Rattle.text.proofs.Marks.{found_front, found_past, whole_front, nothing_past}
+use Rattle.text.proofs.Marks.{found_front, found_past, whole_front, end_past}
 use Rattle.text.proofs.cut.split_at_mark.Goals as goal
 
 pub returns-in-Some-clause-front : goal.returns-in-Some-clause-front
@@ -11,4 +11,4 @@ pub returns-in-None-clause-front : goal.returns-in-None-clause-front
 returns-in-None-clause-front c = whole_front c.args.mark c.args.text.now c.in-None.ensures
 
 pub returns-in-None-clause-behind : goal.returns-in-None-clause-behind
-returns-in-None-clause-behind c = nothing_past c.args.mark c.args.text.now c.in-None.ensures
+returns-in-None-clause-behind c = end_past c.args.mark c.args.text.now c.in-None.ensures

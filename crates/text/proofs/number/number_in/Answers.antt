@@ -1,16 +1,9 @@
-use Rattle.std.proofs.Common.{◌≡◌, true, sym, ap, ◌∙◌}
-use Rattle.std.specs.Result.{result_ok}
-use Rattle.text.specs.Numbers.{is_numeral}
-use Rattle.text.proofs.Numerals.{is_text, parsed, is_number}
+use Rattle.std.proofs.Common.{arith}
+use Rattle.text.proofs.Numerals.{ten_room}
 use Rattle.text.proofs.number.number_in.Goals as goal
 
-pub returns-in-Err : goal.returns-in-Err
-returns-in-Err c =
-    let numeral : is_numeral c.args.field.now ≡ true = sym c.is_numeral.ensures ∙ c.if-not-is_numeral.false in
-    absurd (c.in-Err.ensures.cases.0 (is_text c.args.field.now numeral))
+pub overflow_mul-n : goal.overflow_mul-n
+overflow_mul-n c = omega (arith, ten_room c.loop-b.n c.loop-b.b-index c.loop-b.invariant.small (omega arith))
 
-pub returns-in-Ok : goal.returns-in-Ok
-returns-in-Ok c =
-    let numeral : is_numeral c.args.field.now ≡ true = sym c.is_numeral.ensures ∙ c.if-not-is_numeral.false in
-    let same = c.in-Ok.ensures.cases.0 in
-    c.ok.ensures.value ∙ ap result_ok (parsed c.args.field.now numeral c.parse.result (rw same at c.parse.ensures.value.0)) ∙ sym (is_number c.args.field.now numeral)
+pub overflow_add-n : goal.overflow_add-n
+overflow_add-n c = omega (arith, c.from.ensures, ten_room c.loop-b.n c.loop-b.b-index c.loop-b.invariant.small (omega arith))
