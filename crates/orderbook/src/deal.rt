@@ -19,25 +19,25 @@ use market::roll::Roll;
 use market::side::BookSide;
 use sharing::rule::ShareOut;
 
-// What an order trades at a price, and what each order of the other side gives, from the best on; the rest give nothing.
-#[derive(Drop)]
-struct Print {
-    shares: u32,
-    given: ArrayVec<u32, ROLL>,
-}
-
-// The print of an order that has so many shares open: orders priced better give all that they have open, and the rule shares out
-// the rest among those at the price.
-fn print_of<S: BookSide, R: ShareOut>(rule: &R, rows: &Rows<'_, S>, open: u32, price: u32) -> Print
-    ensures shares { result.shares ≡ min «open» (depth S.BookSide.side price (listed rows.now.roll.now)) }
-    ensures given { result.given.items ≡ given (R.ShareOut.gifts rule.now) result.shares S.BookSide.side price (listed rows.now.roll.now) }
+// What an order that has so many shares open trades at a price. What each order of the other side gives, from the best on, goes into a
+// vector that the caller lends, as it is too large to be handed on: orders priced better give all that they have open, and the rule
+// shares out the rest among those at the price; orders behind give nothing.
+fn print_of<S: BookSide, R: ShareOut>(
+    rule: &R,
+    rows: &Rows<'_, S>,
+    open: u32,
+    price: u32,
+    gifts: &mut ArrayVec<u32, ROLL>,
+) -> u32
+    ensures shares { result ≡ min «open» (depth S.BookSide.side price (listed rows.now.roll.now)) }
+    ensures given { gifts.new.items ≡ given (R.ShareOut.gifts rule.now) result S.BookSide.side price (listed rows.now.roll.now) }
 {
-    let mut given = rows.open_shares(price);
+    rows.open_shares(price, gifts);
     let better = rows.better(price);
-    let shares = open.min(given.iter().sum());
-    let ahead: u32 = given[..better].iter().sum();
-    rule.share_out(&mut given[better..], shares.saturating_sub(ahead));
-    Print { shares, given }
+    let shares = open.min(gifts.iter().sum());
+    let ahead: u32 = gifts[..better].iter().sum();
+    rule.share_out(&mut gifts[better..], shares.saturating_sub(ahead));
+    shares
 }
 
 // An order that is not on the book trades at a price with the orders of side S priced there or better.
@@ -60,11 +60,12 @@ pub(crate) fn trade<S: BookSide + Default, R: ShareOut>(
         rows: table.as_slice(),
     };
     let open = order_numbered(roll, number).open;
-    let print = print_of(rule, &rows, open, price);
-    for (row, shares) in table.iter().zip(&print.given) {
-        change_order(roll, row.number, Change::Fill(*shares));
+    let mut gifts = ArrayVec::new();
+    let shares = print_of(rule, &rows, open, price, &mut gifts);
+    for (row, gift) in table.iter().zip(&gifts) {
+        change_order(roll, row.number, Change::Fill(*gift));
     }
-    change_order(roll, number, Change::Fill(print.shares));
+    change_order(roll, number, Change::Fill(shares));
     retain(roll, table, price);
-    print.shares
+    shares
 }

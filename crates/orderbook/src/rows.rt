@@ -62,16 +62,15 @@ impl<'a, S: BookSide> Rows<'a, S> {
         &self.rows[..end]
     }
 
-    // The open shares of the orders at a price or better, in order of precedence. One by one: `extend` over a chain was tried, and what its
-    // closure answers was not found in the proof.
-    pub(crate) fn open_shares(&self, price: u32) -> ArrayVec<u32, ROLL>
-        ensures { result.items ≡ map (λ o. o.«open») (those (λ o. as_good S.BookSide.side o.price price) (book S.BookSide.side (listed self.now.roll.now))) }
+    // Writes the open shares of the orders at a price or better, in order of precedence, into a vector. One by one: `extend` over a chain was
+    // tried, and what its closure answers was not found in the proof.
+    pub(crate) fn open_shares(&self, price: u32, shares: &mut ArrayVec<u32, ROLL>)
+        ensures { shares.new.items ≡ map (λ o. o.«open») (those (λ o. as_good S.BookSide.side o.price price) (book S.BookSide.side (listed self.now.roll.now))) }
     {
-        let mut shares = ArrayVec::new();
+        shares.clear();
         for row in self.front(price) {
             shares.push(self.order(row).open);
         }
-        shares
     }
 
     // The shares at a price.

@@ -1,5 +1,5 @@
 // What becomes of a table of resting orders.
-ghost use Rattle.std.specs.Prelude.{◌≡◌, ◌-◌, ◌≤◌, false, length, filter, slice_index_or};
+ghost use Rattle.std.specs.Prelude.{◌≡◌, ◌-◌, ◌≤◌, false, length, take, filter, slice_index_or};
 ghost use Rattle.market.specs.declared.words.Place.TheVariants.{Book};
 ghost use Rattle.market.specs.Changes.{blank};
 ghost use Rattle.market.specs.Orders.{is_book, put};
@@ -32,7 +32,24 @@ fn is_kept<S: BookSide>(roll: &Roll, row: &Resting<S>, price: u32) -> bool
 pub(crate) fn retain<S: BookSide + Default>(roll: &Roll, table: &mut Table<S>, price: u32)
     ensures { table.new.items ≡ filter (stays S.BookSide.side price (listed roll.now)) table.old.items }
 {
-    table.retain(|row| is_kept(roll, row, price));
+    let kept = move_kept(roll, table.as_mut_slice(), price);
+    table.truncate(kept);
+}
+
+// Moves the rows that stay to the front, in their order, and says how many they are. A row that stays is written over one that goes:
+// `retain` of the library swaps the two, and so carries a row that goes through all that stand behind it.
+fn move_kept<S: BookSide>(roll: &Roll, rows: &mut [Resting<S>], price: u32) -> usize
+    ensures { take result rows.new ≡ filter (stays S.BookSide.side price (listed roll.now)) rows.old }
+{
+    let mut kept = 0;
+    for at in 0..rows.len() {
+        let row = rows[at];
+        if is_kept(roll, &row, price) {
+            rows[kept] = row;
+            kept += 1;
+        }
+    }
+    kept
 }
 
 // An order that is not on the book comes to rest on its side.

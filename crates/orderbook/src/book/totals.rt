@@ -21,13 +21,21 @@ impl Book {
         ensures cancelled { result.cancelled ≡ total (λ o. o.cancelled) (roll_of self.now) }
         ensures amount { result.«open» ≡ total (λ o. o.«open») (roll_of self.now) }
     {
-        let orders = self.roll.as_slice();
-        let filled: u64 = orders.iter().map(|order| u64::from(order.filled)).sum();
+        let mut accepted = 0;
+        let mut filled = 0;
+        let mut cancelled = 0;
+        let mut open = 0;
+        for order in self.roll.as_slice() {
+            accepted += u64::from(order.accepted);
+            filled += u64::from(order.filled);
+            cancelled += u64::from(order.cancelled);
+            open += u64::from(order.open);
+        }
         Totals {
-            accepted: orders.iter().map(|order| u64::from(order.accepted)).sum(),
+            accepted,
             printed: filled / 2,
-            cancelled: orders.iter().map(|order| u64::from(order.cancelled)).sum(),
-            open: orders.iter().map(|order| u64::from(order.open)).sum(),
+            cancelled,
+            open,
         }
     }
 }

@@ -23,7 +23,7 @@ sum-requires-clause-fits g c =
 pub slice_bounds-iter-end : goal.slice_bounds-iter-end
 slice_bounds-iter-end g c =
     let r = c.args.rows.now in
-    let f = front g.S.BookSide.side c.args.price (listed r.roll.now) (tied r.tied).sound c.better-better.result c.deref-2.result.now c.better-better.ensures (c.deref-2.ensures.0 ∙ c.open_shares-given.ensures) in
+    let f = front g.S.BookSide.side c.args.price (listed r.roll.now) (tied r.tied).sound c.better-better.result c.deref-2.result.now c.better-better.ensures (c.deref-2.ensures.0 ∙ c.open_shares.ensures) in
     sym (length-take-le c.better-better.result c.deref-2.result.now f.within)
 
 pub sum-ahead-requires-clause-fits : goal.sum-ahead-requires-clause-fits
@@ -31,26 +31,26 @@ sum-ahead-requires-clause-fits g c =
     let s = g.S.BookSide.side in
     let r = c.args.rows.now in
     let os = listed r.roll.now in
-    let f = front s c.args.price os (tied r.tied).sound c.better-better.result c.deref-2.result.now c.better-better.ensures (c.deref-2.ensures.0 ∙ c.open_shares-given.ensures) in
+    let f = front s c.args.price os (tied r.tied).sound c.better-better.result c.deref-2.result.now c.better-better.ensures (c.deref-2.ensures.0 ∙ c.open_shares.ensures) in
     fits_from_yields_list c.iter-2.result _ (YieldsList-from_slice (map (λ o. o.«open») (those (λ o. better s o.price c.args.price) (book s os))) (c.iter-2.ensures.rest ∙ f.better))
     (omega (arith, few_shares s os r.rows.now (tied r.tied) (λ o. better s o.price c.args.price)))
 
 pub offset_bounds-deref_mut-better : goal.offset_bounds-deref_mut-better
 offset_bounds-deref_mut-better g c =
     let r = c.args.rows.now in
-    let f = front g.S.BookSide.side c.args.price (listed r.roll.now) (tied r.tied).sound c.better-better.result c.deref_mut.result.now c.better-better.ensures (c.deref_mut.ensures.value ∙ c.open_shares-given.ensures) in
+    let f = front g.S.BookSide.side c.args.price (listed r.roll.now) (tied r.tied).sound c.better-better.result c.deref_mut.result.now c.better-better.ensures (c.deref_mut.ensures.value ∙ c.open_shares.ensures) in
     omega (arith, f.within)
 
 pub slice_bounds-share_out-count : goal.slice_bounds-share_out-count
 slice_bounds-share_out-count g c =
     let r = c.args.rows.now in
-    let f = front g.S.BookSide.side c.args.price (listed r.roll.now) (tied r.tied).sound c.better-better.result c.deref_mut.result.now c.better-better.ensures (c.deref_mut.ensures.value ∙ c.open_shares-given.ensures) in
+    let f = front g.S.BookSide.side c.args.price (listed r.roll.now) (tied r.tied).sound c.better-better.result c.deref_mut.result.now c.better-better.ensures (c.deref_mut.ensures.value ∙ c.open_shares.ensures) in
     f.within
 
 pub slice_bounds-share_out-start : goal.slice_bounds-share_out-start
 slice_bounds-share_out-start g c =
     let r = c.args.rows.now in
-    let f = front g.S.BookSide.side c.args.price (listed r.roll.now) (tied r.tied).sound c.better-better.result c.deref_mut.result.now c.better-better.ensures (c.deref_mut.ensures.value ∙ c.open_shares-given.ensures) in
+    let f = front g.S.BookSide.side c.args.price (listed r.roll.now) (tied r.tied).sound c.better-better.result c.deref_mut.result.now c.better-better.ensures (c.deref_mut.ensures.value ∙ c.open_shares.ensures) in
     f.within
 
 pub returns : goal.returns
@@ -61,11 +61,11 @@ returns g c =
     let p = c.args.price in
     let depth_is : c.sum.result ≡ depth s p os =
     sum_from_yields_List c.iter.result c.sum.result c.sum.ensures.ran (YieldsList-from_slice (map (λ o. o.«open») (those (λ o. as_good s o.price p) (book s os))) (cc)) ∙ depth_sum s p os in
-    let front_2 = front s p os (tied r.tied).sound c.better-better.result c.deref-2.result.now c.better-better.ensures (c.deref-2.ensures.0 ∙ c.open_shares-given.ensures) in
+    let front_2 = front s p os (tied r.tied).sound c.better-better.result c.deref-2.result.now c.better-better.ensures (c.deref-2.ensures.0 ∙ c.open_shares.ensures) in
     let ahead_is : c.sum-ahead.result ≡ ahead s p os =
     sum_from_yields_List c.iter-2.result c.sum-ahead.result c.sum-ahead.ensures.ran (YieldsList-from_slice (map (λ o. o.«open») (those (λ o. better s o.price p) (book s os))) (c.iter-2.ensures.rest ∙ front_2.better))
     ∙ ahead_sum s p os in
-    let f = front s p os (tied r.tied).sound c.better-better.result c.deref_mut.result.now c.better-better.ensures (c.deref_mut.ensures.value ∙ c.open_shares-given.ensures) in
+    let f = front s p os (tied r.tied).sound c.better-better.result c.deref_mut.result.now c.better-better.ensures (c.deref_mut.ensures.value ∙ c.open_shares.ensures) in
     record {
       shares = c.min-shares.ensures ∙ ap (min c.args.«open») depth_is;
       given = given_is s p (g.R.ShareOut.gifts c.args.rule.now) c.min-shares.result os f c.deref_mut.ensures.value c.share_out.ensures c.share_out.auto.row

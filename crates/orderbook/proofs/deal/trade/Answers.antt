@@ -12,7 +12,7 @@ returns g c =
     let p = c.args.price in
     let os = listed c.args.roll.now in
     let t = c.args.table.now.items in
-    let gifts = given (g.R.ShareOut.gifts c.args.rule.now) c.print_of-print.result.shares s p os in
+    let gifts = given (g.R.ShareOut.gifts c.args.rule.now) c.print_of-shares.result s p os in
     let it = c.loop-row.row-iterator in
     let over : (length it.a.rest.now ≡ 0) ⊎ (length it.b.rest.now ≡ 0) = elim c.in-None.ensures.steps [ inl w ↦ inl w.1.0 | inr w ↦ inr w.1.0 ] in
     let first : c.into_iter-row-iterator.result.a.rest.now ≡ t = cc in
@@ -21,7 +21,7 @@ returns g c =
     each_done it.a.rest.now it.b.rest.now (listed c.loop-row.roll) over ∙ c.loop-row.invariant
     ∙ ap (λ es. each_filled es c.into_iter-row-iterator.result.b.rest.now os) first ∙ ap (λ qs. each_filled t qs os) second in
     let lawful = g.R.ShareOut.lawful c.args.rule.now in
-    let shares_is = c.print_of-print.ensures.shares ∙ ap (λ o. min o.«open» (depth s p os)) c.order_numbered-open.ensures in
+    let shares_is = c.print_of-shares.ensures.shares ∙ ap (λ o. min o.«open» (depth s p os)) c.order_numbered-open.ensures in
     record {
       shares = shares lawful s p t c.requires.tied c.requires.there c.requires.off shares_is dealt c.change_order-2.ensures;
       roll = print_done lawful s p t c.requires.tied c.requires.there c.requires.off shares_is dealt c.change_order-2.ensures;
