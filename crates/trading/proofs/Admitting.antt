@@ -73,11 +73,15 @@ loose_none Book e = refl
 loose_none Line e = refl
 loose_none StopFile e = absurd (false≢true e)
 
+-- so there is room in line
+pub room_more : {os : List Order} {l : List ℕ} {j : ℕ} → length os < 512 → Ruled os l j → j < 512
+room_more {os} h r = omega (arith, r.room)
+
 -- it does not join the line
-pub ruled_push : {os us : List Order} {l : List ℕ} (o : Order) → us ≡ os ++ o ∷ [] → o.number ≡ suc (length os) → length os < 512 → Ruled os l → Ruled us l
-ruled_push {os} {us} {l} o e n h r =
+pub ruled_push : {os us : List Order} {l : List ℕ} {j : ℕ} (o : Order) → us ≡ os ++ o ∷ [] → o.number ≡ suc (length os) → length os < 512 → Ruled os l j → Ruled us l j
+ruled_push {os} {us} {l} {j} o e n h r =
     let long : length (os ++ o ∷ []) ≡ suc (length os) = length_push os o in
-    subst (λ x. Ruled x l) (sym e) (record {
+    subst (λ x. Ruled x l j) (sym e) (record {
       numbered = numbered_push 1 os o r.numbered (omega arith);
       few = omega arith;
       waits = all_map (Waits os) (Waits (os ++ o ∷ [])) l (waits_push os o) r.waits;
@@ -86,19 +90,19 @@ ruled_push {os} {us} {l} o e n h r =
     })
 
 -- it stands last in line
-pub ruled_last : {os us : List Order} {l l' : List ℕ} {n : ℕ} (o : Order) → us ≡ os ++ o ∷ [] → o.number ≡ suc (length os) → length os < 512 → is_loose o.place ≡ true
-    → n ≡ suc (length os) → l' ≡ l ++ n ∷ [] → Ruled os l → Ruled us l'
-ruled_last {os} {us} {l} {l'} {n} o e num h loose is into r =
+pub ruled_last : {os us : List Order} {l l' : List ℕ} {j j' n : ℕ} (o : Order) → us ≡ os ++ o ∷ [] → o.number ≡ suc (length os) → length os < 512 → is_loose o.place ≡ true
+    → n ≡ suc (length os) → l' ≡ l ++ n ∷ [] → j' ≡ j + 1 → Ruled os l j → Ruled us l' j'
+ruled_last {os} {us} {l} {l'} {j} {j'} {n} o e num h loose is into more r =
     let vs : List Order = os ++ o ∷ [] in
     let long : length (os ++ o ∷ []) ≡ suc (length os) = length_push os o in
     let same : o.number ≡ n = num ∙ sym is in
-    subst (λ x. Ruled x l') (sym e) (subst (Ruled vs) (sym into) (record {
+    subst (λ x. Ruled x l' j') (sym e) (subst (λ x. Ruled vs x j') (sym into) (record {
       numbered = numbered_push 1 os o r.numbered (omega arith);
       few = omega arith;
       waits = all_push (Waits vs) l n (all_map (Waits os) (Waits vs) l (waits_push os o) r.waits)
           (subst (Waits vs) same (ap loose_of (look_last 1 os o r.numbered (omega arith)) ∙ loose));
       once = once_push n l (all_map (Waits os) (λ m. m ≡ n → ⊥) l (λ m w i. not_yet 1 os n r.numbered (omega arith) (subst (Waits os) i w)) r.waits) r.once;
-      room = omega (arith, length_push l n, filed_push os o, loose_none o.place loose, r.room);
+      room = omega (arith, more, filed_push os o, loose_none o.place loose, r.room);
     }))
 
 pub line_more : {l l' m : List ℕ} {n k : ℕ} (w : Place) → l' ≡ l ++ n ∷ [] → w ≡ Line → n ≡ k → l ≡ m → l' ≡ line_with w k m

@@ -37,7 +37,7 @@ first_waits : (P : ℕ → Type 0) (l : List ℕ) (n : ℕ) → first_of l ≡ S
 first_waits P [] n e a = absurd (let z : ◌≡◌ {A = ℕ} 0 1 = cc in omega arith)
 first_waits P (m ∷ l) n e a = let z : m ≡ n = cc in subst P z a.0
 
-pub waits_of : {os : List Order} {l : List ℕ} {n : ℕ} → ∥ Ruled os l ∥₁ → first_of l ≡ Some n → Waits os n
+pub waits_of : {os : List Order} {l : List ℕ} {j n : ℕ} → ∥ Ruled os l j ∥₁ → first_of l ≡ Some n → Waits os n
 waits_of {os} {l} {n} x e = first_waits (Waits os) l n e (ruled x).waits
 
 pub first_is_lem : (l : List ℕ) (n : ℕ) → first_of l ≡ Some n → (ns : List ℕ) × (l ≡ n ∷ ns)

@@ -22,7 +22,7 @@ use Rattle.trading.proofs.Ruled.{ruled}
 use Rattle.trading.proofs.Electing.{Called, one_called, none_called, elect_one, elect_more, elect_none, one_fewer}
 
 -- the orders of a board are numbered in turn
-pub numbered_of : {os : List Order} {l : List ℕ} → ∥ Ruled os l ∥₁ → Numbered 1 os
+pub numbered_of : {os : List Order} {l : List ℕ} {j : ℕ} → ∥ Ruled os l j ∥₁ → Numbered 1 os
 numbered_of x = (ruled x).numbered
 
 -- what is left to elect, from a board, a file and lines as they were, to those now

@@ -23,10 +23,10 @@ loose_of (Some o) = is_loose o.place
 abbrev pub Waits : List Order → ℕ → Type 0
 Waits os n = loose_of (look n os) ≡ true
 
-pub record Ruled (os : List Order) (line : List ℕ) : Type 0 where
+pub record Ruled (os : List Order) (line : List ℕ) (joined : ℕ) : Type 0 where
   pub numbered : Numbered 1 os
   pub few : length os ≤ 512
   pub waits : AllByRecursion (Waits os) line
   pub once : Once line
-  -- each order is in line once at most, and none while it is filed: so there is always room in line
-  pub room : length line + filed os ≤ length os
+  -- each order joins the line once at most, and none while it is filed: so there is always room in line
+  pub room : joined + filed os ≤ length os

@@ -1,6 +1,6 @@
 // The state of a day, apart from its rule and its stop file.
 ghost use Rattle.orderbook.specs.Books.{roll_of};
-ghost use Rattle.trading.specs.Waiting.{line_of};
+ghost use Rattle.trading.specs.Waiting.{line_of, joined_of};
 ghost use Rattle.trading.specs.Ruling.{Ruled};
 
 use crate::line::Line;
@@ -28,5 +28,5 @@ pub struct Board {
     // A number, as in every definition. Class, column and last sale are no struct: each print sets the last sale alone.
     class: u32,
     column: Column,
-    ghost ruled: { ∥ Ruled (roll_of book) (line_of line) ∥₁ },
+    ghost ruled: { ∥ Ruled (roll_of book) (line_of line) (joined_of line) ∥₁ },
 }

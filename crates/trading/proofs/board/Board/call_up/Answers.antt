@@ -14,4 +14,4 @@ invariant_of-self c =
     let b = c.args.self.now in
     let n = c.args.number in
     let stop : filed_of (look n (roll_of b.book)) ≡ true = sym c.is_filed.ensures ∙ c.if-not-is_filed.false in
-    record { ruled = ∣ ruled_in n (chosen _ _ _ c.put.ensures (filed_off (look n (roll_of b.book)) stop)) stop c.join.ensures (ruled b.ruled) ∣₁ }
+    record { ruled = ∣ ruled_in n (chosen _ _ _ c.put.ensures (filed_off (look n (roll_of b.book)) stop)) stop c.join.ensures.line c.join.ensures.joined (ruled b.ruled) ∣₁ }

@@ -1,5 +1,6 @@
 use Rattle.std.proofs.Common.{◌∙◌}
 use Rattle.trading.specs.Tapes.{written}
+use Rattle.trading.proofs.Tape.{grew_more}
 use Rattle.trading.proofs.Prices.{first_is_lem, printed_is}
 use Rattle.trading.proofs.board.Board.prints.Goals as goal
 
@@ -20,3 +21,6 @@ returns-clause-day g c = λ f d s.
       tape = s.tape;
     }) in
     printed_is (g.R.ShareOut.gifts c.args.rule.now) r (c.first_price-first.ensures ∙ first_is_lem r d s.range s.roll) (c.second_price-second.ensures f (written a.new.tape) _ t) (b.ensures.day f _ t)
+
+pub returns-clause-grew : goal.returns-clause-grew
+returns-clause-grew g c = grew_more c.print_at.ensures.grew c.print_at-2.ensures.grew
