@@ -1,7 +1,9 @@
 -- The first stop that passes a test, and what is left without it.
-use Rattle.std.proofs.Common.{◌≡◌, ℕ, zero, suc, ◌+◌, ◌≤◌, Bool, true, false, cond, not, ltb, List, [], ◌∷◌, length, Some, None, filter, sym, refl, ap, ◌∙◌, one-add, arith}
-use Rattle.std.specs.List.{position, prefix_len, remove, slice_get, AllByRecursion}
-use Rattle.std.proofs.lemmas.Bool.{ltb-false}
+use Rattle.std.proofs.Common.{◌≡◌, ℕ, zero, suc, ◌+◌, ◌≤◌, Bool, true, false, cond, not, leb, ltb, is_some, get_or, Option, List, [], ◌∷◌, length, Some, None, filter, sym, refl, ap, ◌∙◌, one-add, arith}
+use Rattle.std.specs.List.{list_all, position, prefix_len, remove, slice_get, AllByRecursion}
+use Rattle.std.proofs.lemmas.Bool.{and_from, both_ways, lt-ltb, le-ltb, ltb-false, leb-true, leb-false}
+use Rattle.std.proofs.lemmas.List.Folds.{list_all_at}
+use Rattle.std.proofs.lemmas.List.Quantifiers.{position-Some}
 use Rattle.market.specs.declared.words.Stop.{Stop}
 use Rattle.stops.specs.Stops.{first_by, without_by, without_first}
 
@@ -21,6 +23,21 @@ module _ {X : Type 0} (t : X → Bool) where
       go : (b : Bool) → ltb (prefix_len (λ x. not (t x)) xs) (length xs) ≡ b → None ≡ cond b (Some (prefix_len (λ x. not (t x)) xs)) None → AllByRecursion (λ x. t x ≡ false) xs
       go true h k = absurd (let z : ◌≡◌ {A = ℕ} 0 1 = cc in omega arith)
       go false h k = past_all xs (ltb-false (prefix_len (λ x. not (t x)) xs) (length xs) h)
+
+-- a number is above all where none is at or above it
+module _ {X : Type 0} (f : X → ℕ) (n : ℕ) where
+  all_below : (xs : List X) → AllByRecursion (λ x. leb n (f x) ≡ false) xs → list_all (λ x. ltb (f x) n) xs ≡ true
+  all_below [] h = refl
+  all_below (x ∷ xs) h = and_from (ltb (f x) n) (list_all (λ x. ltb (f x) n) xs) (lt-ltb (f x) n (leb-false n (f x) h.0)) (all_below xs h.1)
+
+  pub none_above : (xs : List X) (o : Option ℕ) (r : Bool) → o ≡ position (λ x. leb n (f x)) xs → is_some o ≡ not r → r ≡ list_all (λ x. ltb (f x) n) xs
+  none_above xs None true e h = sym (all_below xs (unfound (λ x. leb n (f x)) xs e))
+  none_above xs None false e h = absurd (both_ways false refl h)
+  none_above [] (Some i) r e h = absurd (let z : ◌≡◌ {A = ℕ} 0 1 = cc in omega arith)
+  none_above (x ∷ xs) (Some i) true e h = absurd (both_ways true h refl)
+  none_above (x ∷ xs) (Some i) false e h =
+      let at = position-Some (λ x. leb n (f x)) (x ∷ xs) i x (sym e) in
+      sym (list_all_at (λ x. ltb (f x) n) (x ∷ xs) i x at.0 (le-ltb (f (get_or (x ∷ xs) i x)) n (leb-true n (f (get_or (x ∷ xs) i x)) at.1)))
 
 module _ (t : Stop → Bool) where
   abbrev pub past : Stop → Bool

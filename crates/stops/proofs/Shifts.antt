@@ -1,11 +1,10 @@
 -- What filing a row and taking one out make of a table's stops.
-use Rattle.std.proofs.Common.{◌≡◌, ℕ, zero, suc, ◌≤◌, length, length-append, length-take, length-drop, Bool, true, false, List, [], ◌∷◌, ◌++◌, map, take, drop, Some, None, Option, Ok, Err, Result, sym, refl, ap, ◌∙◌, subst, arith, MatchOption}
-use Rattle.std.specs.Option.{OnSome, IfNone}
+use Rattle.std.proofs.Common.{◌≡◌, ℕ, zero, suc, ◌+◌, ◌≤◌, length, length-append, length-take, length-drop, Bool, true, false, List, [], ◌∷◌, ◌++◌, map, take, drop, Some, None, Option, Ok, Err, Result, sym, refl, ap, ◌∙◌, subst, arith, MatchOption}
 use Rattle.std.specs.Result.{OnOk, is_ok}
 use Rattle.std.specs.List.{remove, slice_get}
 use Rattle.std.proofs.ByRecursion.{All-append, All-take, All-drop}
 use Rattle.market.specs.Files.{filed, ahead, InOrder}
-use Rattle.market.proofs.Filing.{filed_is}
+use Rattle.market.proofs.Filing.{filed_is, length_filed}
 use Rattle.market.specs.declared.words.Stop.{Stop}
 use Rattle.market.specs.declared.words.Side.{Side}
 use Rattle.stops.specs.declared.rows.PricedStop.{PricedStop}
@@ -35,6 +34,9 @@ module _ {X : Type 0} (f : X → Stop) where
   filed_beside before xs ys x e =
       subst (λ (zs : List X). Beside (f x) (map f zs) (map f xs)) (sym (e ∙ filed_is before x xs)) (beside_inserted f xs (ahead before x xs) x)
 
+  pub filed_longer : (before : X → X → Bool) (xs ys : List X) (x : X) → ys ≡ filed before x xs → length ys ≡ length xs + 1
+  filed_longer before xs ys x e = ap length e ∙ length_filed before x xs
+
   -- the stop at a place, and the table without it
   pulled_beside : (xs : List X) (i : ℕ) (o : Option Stop) → o ≡ slice_get (map f xs) i → Pulled o (map f xs) (map f (remove xs i))
   pulled_beside [] zero o e = rw e refl
@@ -56,26 +58,15 @@ removed_in_order before (x ∷ xs) (suc i) h =
 length_removed : {X : Type 0} (xs : List X) (i : ℕ) → length (remove xs i) ≤ length xs
 length_removed xs i = simp length-append (omega (arith, length-take i xs, length-drop (suc i) xs))
 
-remove_past : {X : Type 0} (xs : List X) (i : ℕ) → None ≡ slice_get xs i → remove xs i ≡ xs
-remove_past [] zero e = refl
-remove_past [] (suc i) e = refl
-remove_past (x ∷ xs) zero e = absurd (let z : ◌≡◌ {A = ℕ} 0 1 = cc in omega arith)
-remove_past {X} (x ∷ xs) (suc i) e = ap (λ (l : List X). x ∷ l) (remove_past xs i e)
-
--- what `pop_at` leaves
-popped : {X V : Type 0} (items : V → List X) (old new : V) (i : ℕ) (o : Option X) → o ≡ slice_get (items old) i → OnSome o (items new ≡ remove (items old) i) → IfNone o (new ≡ old) → items new ≡ remove (items old) i
-popped items old new i None was h k = ap items k ∙ sym (remove_past (items old) i was)
-popped items old new i (Some x) was h k = h
-
--- and what that makes of a table
+-- what it makes of a table that the row at a place is taken out
 pub record PulledRow {S : Type 0} (c : Side) (xs ys : List (PricedStop S)) (i : ℕ) : Type 0 where
   pub left : (o : Option Stop) → o ≡ slice_get (map (stop_of c) xs) i → Pulled o (map (stop_of c) xs) (map (stop_of c) ys)
   pub ordered : InOrder (ranks c) xs → InOrder (ranks c) ys
   pub fewer : length ys ≤ length xs
 
-pub pulled_row : {S V : Type 0} (c : Side) (items : V → List (PricedStop S)) (old new : V) (i : ℕ) (o : Option (PricedStop S)) → o ≡ slice_get (items old) i → OnSome o (items new ≡ remove (items old) i) → IfNone o (new ≡ old) → PulledRow c (items old) (items new) i
-pulled_row {S} c items old new i o was h k =
-    subst (λ (zs : List (PricedStop S)). PulledRow c (items old) zs i) (sym (popped items old new i o was h k)) (record { left = λ r e. pulled_beside (stop_of c) (items old) i r e; ordered = removed_in_order (ranks c) (items old) i; fewer = length_removed (items old) i })
+pub pulled_row : {S : Type 0} (c : Side) (xs ys : List (PricedStop S)) (i : ℕ) → ys ≡ remove xs i → PulledRow c xs ys i
+pulled_row {S} c xs ys i e =
+    subst (λ (zs : List (PricedStop S)). PulledRow c xs zs i) (sym e) (record { left = λ r was. pulled_beside (stop_of c) xs i r was; ordered = removed_in_order (ranks c) xs i; fewer = length_removed xs i })
 
 -- what holds if there was room
 pub row_filed : {T E P : Type 0} (r : Result T E) → is_ok r ≡ true → OnOk r P → P

@@ -1,5 +1,5 @@
 -- What the price file holds.
-use Rattle.std.specs.Prelude.{◌≡◌, suc, ◌+◌, ◌≤◌, List, [], ◌∷◌, map, length, refl}
+use Rattle.std.specs.Prelude.{◌≡◌, suc, ◌+◌, ◌≤◌, List, [], ◌∷◌, map, length, take, refl}
 use Rattle.std.proofs.Common.{ap, ◌∙◌, arith, length-append}
 use Rattle.std.proofs.lemmas.List.{length-map}
 use Rattle.market.specs.Files.{filed}
@@ -13,10 +13,10 @@ use Rattle.stops.specs.declared.tables.PriceFile.{PriceFile}
 use Rattle.stops.specs.Tables.{stop_of, both, lower_number, by_number}
 
 abbrev pub buys_of : PriceFile → List (PricedStop Bids)
-buys_of f = f.buys.rows.items
+buys_of f = take f.buys.held f.buys.rows
 
 abbrev pub sells_of : PriceFile → List (PricedStop Offers)
-sells_of f = f.sells.rows.items
+sells_of f = take f.sells.held f.sells.rows
 
 abbrev pub held_by : PriceFile → List Stop
 held_by f = both (buys_of f) (sells_of f)

@@ -1,20 +1,14 @@
 // A stop file that keeps its stops in order of arrival, in slots that the caller lends.
-ghost use Rattle.std.specs.Prelude.{◌≡◌, ◌<◌, [], ◌∷◌, ◌++◌, length};
+ghost use Rattle.std.specs.Prelude.{◌≡◌, ◌<◌, [], ◌∷◌, ◌++◌, length, nat_le};
 ghost use Rattle.std.specs.List.{position, remove, slice_get};
 ghost use Rattle.stops.specs.Slots.{filled, filled_fits};
 ghost use Rattle.stops.specs.Stops.{elects, numbered, above_all};
 ghost use Rattle.stops.specs.Rising.{ascends_reached};
 
+use crate::rows::is_elected;
 use crate::stop_file::{NotAdded, StopFile};
 use market::file::remove_at;
 use market::words::Stop;
-
-// Whether a price elects a stop: a buy priced at it or lower, a sell priced at it or higher.
-fn is_elected(stop: &Stop, price: u32) -> bool
-    ensures { result ≡ elects price stop.now }
-{
-    stop.side.as_good(price, stop.price)
-}
 
 // The caller lends the slots, since memory is fixed: so the count stands beside them, and no ArrayVec owns both.
 // There is no ghost field, so that a day can hold the file by value: a `held` past the slots counts as all of them.
@@ -43,7 +37,15 @@ impl<'a> ArrivalFile<'a> {
     fn is_above(&self, number: u32) -> bool
         ensures { result ≡ above_all number (filled self.now.held self.now.slots.now) }
     {
-        self.stops().iter().all(|stop| stop.number < number)
+        // the loop of `all` takes a step more a stop
+        self.place_from(number).is_none()
+    }
+
+    // The place of the first stop with a number or one above it.
+    fn place_from(&self, number: u32) -> Option<usize>
+        ensures { result ≡ position (λ stop. nat_le number stop.number) (filled self.now.held self.now.slots.now) }
+    {
+        self.stops().iter().position(|stop| stop.number >= number)
     }
 
     // The place of a number.
@@ -57,7 +59,9 @@ impl<'a> ArrivalFile<'a> {
     fn place_at(&self, price: u32) -> Option<usize>
         ensures { result ≡ position (elects price) (filled self.now.held self.now.slots.now) }
     {
-        self.stops().iter().position(|stop| is_elected(stop, price))
+        self.stops()
+            .iter()
+            .position(|stop| is_elected(stop.side, stop.price, price))
     }
 
     // Takes the stop at a place out.

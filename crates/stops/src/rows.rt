@@ -1,11 +1,19 @@
-// The rows of the price file, each a stop of one side.
+// The rows of the price file, each a stop of one side, and what elects a stop of either file.
 ghost use Rattle.std.specs.Prelude.{◌≡◌};
 ghost use Rattle.stops.specs.Ranking.{ranks_strict};
+ghost use Rattle.stops.specs.Stops.{reaches};
 ghost use Rattle.stops.specs.Tables.{stop_of, ranks};
 
 use market::file::Ranked;
 use market::side::BookSide;
-use market::words::Stop;
+use market::words::{Side, Stop};
+
+// Whether a price elects a stop: a buy priced at it or lower, a sell priced at it or higher.
+pub(crate) fn is_elected(side: Side, stop_price: u32, price: u32) -> bool
+    ensures { result ≡ reaches side price stop_price }
+{
+    side.as_good(price, stop_price)
+}
 
 // A stop whose side is its type.
 #[derive(Clone, Copy, Default)]
@@ -37,7 +45,9 @@ impl<S: BookSide> Ranked for PricedStop<S> {
     ghost strict = { ranks_strict S.BookSide.side };
 
     fn precedes(&self, other: &PricedStop<S>) -> bool {
+        // by its fields, each read only where it decides
         let side = S::side().opposite();
-        side.ranks_before((self.price, self.number), (other.price, other.number))
+        side.better(self.price, other.price)
+            || (self.price == other.price && self.number < other.number)
     }
 }

@@ -1,5 +1,5 @@
 // The two tables of the price file.
-ghost use Rattle.std.specs.Prelude.{◌+◌, ◌≤◌, length};
+ghost use Rattle.std.specs.Prelude.{◌+◌, ◌≤◌, length, take};
 ghost use Rattle.stops.specs.Tables.{Apart, apart_prop, both};
 
 use crate::table::Table;
@@ -12,6 +12,6 @@ pub const CAPACITY: usize = 512;
 pub struct PriceFile {
     pub(crate) buys: Table<Bids>,
     pub(crate) sells: Table<Offers>,
-    ghost within: { length buys.rows.items + length sells.rows.items ≤ 512 },
-    ghost distinct: { Apart (both buys.rows.items sells.rows.items) } by { apart_prop (both buys.rows.items sells.rows.items) },
+    ghost within: { length (take buys.held buys.rows) + length (take sells.held sells.rows) ≤ 512 },
+    ghost distinct: { Apart (both (take buys.held buys.rows) (take sells.held sells.rows)) } by { apart_prop (both (take buys.held buys.rows) (take sells.held sells.rows)) },
 }
