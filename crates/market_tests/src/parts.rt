@@ -81,7 +81,7 @@ fn bids_in_order(rt: HostRuntime) {
     assert_eq!(rt; (file[0].number, file[1].number), (3, 2));
 }
 
-// The same in a vector, as the book and the stop file keep theirs.
+// The same in a vector, as the book keeps its tables.
 #[test]
 fn bids_in_a_vector(rt: HostRuntime) {
     let mut file: ArrayVec<Resting<Bids>, 3> = ArrayVec::new();

@@ -1,4 +1,4 @@
--- What a board keeps: the roll, and the numbers in line. Assumes nothing.
+-- What a board keeps: the roll, the numbers in line, and how many have joined it today. Assumes nothing.
 use Rattle.std.specs.Prelude.{◌≡◌, ℕ, ◌+◌, ◌≤◌, Bool, true, false, List, length, Some, None, Option}
 use Rattle.std.specs.List.{AllByRecursion}
 use Rattle.market.specs.declared.words.Place.{Place}

@@ -7,7 +7,7 @@ use Rattle.trading.specs.declared.line.Line.{Line}
 abbrev pub line_of : Line → List ℕ
 line_of l = drop l.gone l.numbers.items
 
--- how many joined, with those that have gone
+-- how many joined, but for those who left from behind the first
 abbrev pub joined_of : Line → ℕ
 joined_of l = length l.numbers.items
 
